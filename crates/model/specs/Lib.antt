@@ -1,0 +1,11 @@
+pub mod Stores
+pub mod Buses
+pub mod States
+pub mod Status
+pub mod Controller
+pub mod Effects
+pub mod Steps
+pub mod Answers
+pub mod Console
+pub mod Runs
+pub mod Tapes
