@@ -128,11 +128,10 @@ unfoldable pub controllerHalf : List ℕ → ℕ → ℕ → ℕ
 controllerHalf segments faults r =
     cond (isSegment r) (halfOf r (getD segments (segmentAt r) 0)) (cond (isFaults r) (halfOf r faults) 0)
 
--- The segmentation registers after a write that makes a new half of the old: the unused bits are forced to zero.
-unfoldable pub segmentsAfter : List ℕ → ℕ → (ℕ → ℕ) → List ℕ
-segmentsAfter segments r f =
-    let g = getD segments (segmentAt r) 0 in
-    cond (isSegment r) (set segments (segmentAt r) (used (withHalf r (f (halfOf r g)) g))) segments
+-- The segmentation registers after the half h was written at r: the unused bits are forced to zero.
+unfoldable pub segmentsAfter : List ℕ → ℕ → ℕ → List ℕ
+segmentsAfter segments r h =
+    cond (isSegment r) (set segments (segmentAt r) (used (withHalf r h (getD segments (segmentAt r) 0)))) segments
 
 -- The interrupt status after a read at r; a write there does nothing to it.
 unfoldable pub faultsAfterRead : ℕ → ℕ → ℕ

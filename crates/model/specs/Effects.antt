@@ -88,7 +88,7 @@ readAt r s =
 abbrev pub writtenAt : ℕ → (ℕ → ℕ) → State → State
 writtenAt r f s =
     cond (reachesController r s)
-    (withSegments (segmentsAfter (s .segments) r f) s)
+    (withSegments (segmentsAfter (s .segments) r (f (controllerHalf (s .segments) (s .faults) r))) s)
     (withStore (revised (s .store) (r / 2) f) s)
 
 -- ── Privilege ──
