@@ -1,0 +1,4 @@
+//! Arithmetic on fullwords and the condition codes that it sets.
+
+pub mod products;
+pub mod sums;
