@@ -4,10 +4,10 @@ use Prim.Native.Nat.{ℕ, _+_, _-_, _*_, _/_, _%_, _^_, _<_, _≤_}
 use native.Mathlib.Omega.{arith}
 use borrow.Author.Needs.{needs}
 use native.Mathlib.Nat.{add-mul, one-mul}
-use Rattle.std.proofs.shelf.Bits.{pow-pos, pow-add, div-add-mod', mod-below, div-below, div-mul-add, mul-le, le-div}
-use Rattle.std.proofs.shelf.Tests.{cases-eq}
+use Rattle.std.proofs.shelf.Bits.{pow-pos, pow-add, div-add-mod', mod-below, div-below, div-mul-add, mul-le, shr-shr}
+use Rattle.std.proofs.shelf.Tests.{cases-eq, cases-lt}
 use Rattle.fields.specs.Bits.{bitWeight, bitOf, withBit, withoutBit, withBitFlipped}
-use Rattle.fields.specs.Laws.{Bits-written}
+use Rattle.fields.specs.Laws.{Bits-written, Bits-kept}
 
 weight-pos : (n : ℕ) → 0 < bitWeight n
 unfolding bitWeight
@@ -106,5 +106,67 @@ bits-written =
         ⊎-elim
         (λ b. ap (bitOf n) (flipped-from-0 n h b) ∙ (bit-comes n h b ∙ omega arith))
         (λ b. ap (bitOf n) (flipped-from-1 n h b) ∙ (bit-goes n h b ∙ omega (arith, bit-small n h)))
+        (cases-eq (bitOf n h) 0)
+    )
+
+-- A bit of weight 2^j that was 0 and gets its weight changes no bit of a weight above it,
+kept-above : (h j d : ℕ) → h / 2 ^ j % 2 ≡ 0 → (h + 2 ^ j) / 2 ^ (j + (1 + d)) ≡ h / 2 ^ (j + (1 + d))
+kept-above h j d b =
+    let q : (h + 2 ^ j) / 2 ^ j ≡ h / 2 ^ j + 1 = one-more h (2 ^ j) (pow-pos j) in
+    let e : (h / 2 ^ j + 1) / 2 ^ 1 ≡ h / 2 ^ j / 2 ^ 1 = omega arith in
+    sym (shr-shr (h + 2 ^ j) j (1 + d))
+    ∙ (ap (λ x. x / 2 ^ (1 + d)) q
+    ∙ (sym (shr-shr (h / 2 ^ j + 1) 1 d)
+    ∙ (ap (λ x. x / 2 ^ d) e
+    ∙ (shr-shr (h / 2 ^ j) 1 d
+    ∙ shr-shr h j (1 + d)))))
+
+-- nor one below.
+kept-below : (h i d : ℕ) → (h + 2 ^ (1 + d + i)) / 2 ^ i % 2 ≡ h / 2 ^ i % 2
+kept-below h i d =
+    let w = 2 ^ i in
+    let c = 2 ^ (1 + d) in
+    let even : c ≡ 2 ^ 1 * 2 ^ d = pow-add 2 1 d in
+    let e : h + 2 ^ (1 + d + i) ≡ (h / w + c) * w + h % w = grind (arith, pow-add 2 (1 + d) i, div-add-mod' h w, add-mul (h / w) c w) in
+    let f : (h + 2 ^ (1 + d + i)) / w ≡ h / w + c = ap (λ x. x / w) e ∙ div-mul-add (h / w + c) w (h % w) (mod-below h w (pow-pos i)) in
+    ap (λ x. x % 2) f ∙ omega arith
+
+kept : (i j h : ℕ) → (i ≡ j → ⊥) → h / 2 ^ j % 2 ≡ 0 → (h + 2 ^ j) / 2 ^ i % 2 ≡ h / 2 ^ i % 2
+kept i j h ne b =
+    ⊎-elim
+    (λ l.
+      let e : 1 + (j - i - 1) + i ≡ j = omega arith in
+      rw e at (kept-below h i (j - i - 1)))
+    (λ l.
+      let e : j + (1 + (i - j - 1)) ≡ i = omega arith in
+      ap (λ x. x % 2) (rw e at (kept-above h j (i - j - 1) b)))
+    (cases-lt i j)
+
+kept-with : (m n h : ℕ) → (m % 16 ≡ n % 16 → ⊥) → bitOf n h ≡ 0 → bitOf m (h + bitWeight n) ≡ bitOf m h
+unfolding bitOf bitWeight
+kept-with m n h ne b = kept (15 - m % 16) (15 - n % 16) h (λ e. ne (omega arith)) b
+
+kept-without : (m n h : ℕ) → (m % 16 ≡ n % 16 → ⊥) → (bitOf n h ≡ 0 → ⊥) → bitOf m (h - bitWeight n) ≡ bitOf m h
+kept-without m n h ne b =
+    let l : bitWeight n ≤ h = weight-within n h b in
+    let e : h - bitWeight n + bitWeight n ≡ h = omega arith in
+    sym (kept-with m n (h - bitWeight n) ne (bit-goes n h b)) ∙ ap (bitOf m) e
+
+pub bits-kept : Bits-kept
+bits-kept =
+    ( λ m n h ne.
+        ⊎-elim
+        (λ b. ap (bitOf m) (set-from-0 n h b) ∙ kept-with m n h ne b)
+        (λ b. ap (bitOf m) (set-from-1 n h b))
+        (cases-eq (bitOf n h) 0)
+    , λ m n h ne.
+        ⊎-elim
+        (λ b. ap (bitOf m) (cleared-from-0 n h b))
+        (λ b. ap (bitOf m) (cleared-from-1 n h b) ∙ kept-without m n h ne b)
+        (cases-eq (bitOf n h) 0)
+    , λ m n h ne.
+        ⊎-elim
+        (λ b. ap (bitOf m) (flipped-from-0 n h b) ∙ kept-with m n h ne b)
+        (λ b. ap (bitOf m) (flipped-from-1 n h b) ∙ kept-without m n h ne b)
         (cases-eq (bitOf n h) 0)
     )

@@ -1,5 +1,5 @@
 use mathlib.Core.Path.{_≡_}
-use Prim.Native.Nat.{ℕ, _-_, _^_, _<_}
+use Prim.Native.Nat.{ℕ, _-_, _%_, _^_, _<_}
 use Rattle.fields.specs.Parts.{joined, highHalf, lowHalf, halvesExchanged}
 use Rattle.fields.specs.Bits.{bitOf, withBit, withoutBit, withBitFlipped}
 
@@ -15,3 +15,10 @@ Bits-written =
     ((n h : ℕ) → bitOf n (withBit n h) ≡ 1)
     × ((n h : ℕ) → bitOf n (withoutBit n h) ≡ 0)
     × ((n h : ℕ) → bitOf n (withBitFlipped n h) ≡ 1 - bitOf n h)
+
+-- The other bits of the halfword stay as they are.
+abbrev pub Bits-kept : Type 0
+Bits-kept =
+    ((m n h : ℕ) → (m % 16 ≡ n % 16 → ⊥) → bitOf m (withBit n h) ≡ bitOf m h)
+    × ((m n h : ℕ) → (m % 16 ≡ n % 16 → ⊥) → bitOf m (withoutBit n h) ≡ bitOf m h)
+    × ((m n h : ℕ) → (m % 16 ≡ n % 16 → ⊥) → bitOf m (withBitFlipped n h) ≡ bitOf m h)

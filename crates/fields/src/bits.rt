@@ -3,7 +3,7 @@
 ghost use mathlib.Core.Path.{_≡_};
 ghost use Prim.Native.Nat.{_<_};
 ghost use Rattle.fields.specs.Bits.{bitOffset, bitWeight, bitOf, withBit, withoutBit, withBitFlipped};
-ghost use Rattle.fields.specs.Laws.{Bits-written};
+ghost use Rattle.fields.specs.Laws.{Bits-written, Bits-kept};
 
 /// How many bytes after the first halfword of a row of bits bit `n` has its halfword.
 pub fn bit_offset(n: u32) -> u32
@@ -51,5 +51,11 @@ pub fn with_bit_flipped(n: u32, h: u16) -> u16
 /// A bit that was written is what was written.
 pub fn bits_written()
     ensures { λ _. ⌜ Bits-written ⌝ }
+{
+}
+
+/// The other bits stay.
+pub fn bits_kept()
+    ensures { λ _. ⌜ Bits-kept ⌝ }
 {
 }
