@@ -91,23 +91,23 @@ unfolding bitOf
 bit-small n h = omega arith
 
 pub bits-written : Bits-written
-bits-written =
-    ( λ n h.
-        ⊎-elim
-        (λ b. ap (bitOf n) (set-from-0 n h b) ∙ bit-comes n h b)
-        (λ b. ap (bitOf n) (set-from-1 n h b) ∙ omega (arith, bit-small n h))
-        (cases-eq (bitOf n h) 0)
-    , λ n h.
-        ⊎-elim
-        (λ b. ap (bitOf n) (cleared-from-0 n h b) ∙ b)
-        (λ b. ap (bitOf n) (cleared-from-1 n h b) ∙ bit-goes n h b)
-        (cases-eq (bitOf n h) 0)
-    , λ n h.
-        ⊎-elim
-        (λ b. ap (bitOf n) (flipped-from-0 n h b) ∙ (bit-comes n h b ∙ omega arith))
-        (λ b. ap (bitOf n) (flipped-from-1 n h b) ∙ (bit-goes n h b ∙ omega (arith, bit-small n h)))
-        (cases-eq (bitOf n h) 0)
-    )
+bits-written = (
+  λ n h.
+      ⊎-elim
+      (λ b. ap (bitOf n) (set-from-0 n h b) ∙ bit-comes n h b)
+      (λ b. ap (bitOf n) (set-from-1 n h b) ∙ omega (arith, bit-small n h))
+      (cases-eq (bitOf n h) 0),
+  λ n h.
+      ⊎-elim
+      (λ b. ap (bitOf n) (cleared-from-0 n h b) ∙ b)
+      (λ b. ap (bitOf n) (cleared-from-1 n h b) ∙ bit-goes n h b)
+      (cases-eq (bitOf n h) 0),
+  λ n h.
+      ⊎-elim
+      (λ b. ap (bitOf n) (flipped-from-0 n h b) ∙ (bit-comes n h b ∙ omega arith))
+      (λ b. ap (bitOf n) (flipped-from-1 n h b) ∙ (bit-goes n h b ∙ omega (arith, bit-small n h)))
+      (cases-eq (bitOf n h) 0),
+)
 
 -- A bit of weight 2^j that was 0 and gets its weight changes no bit of a weight above it,
 kept-above : (h j d : ℕ) → h / 2 ^ j % 2 ≡ 0 → (h + 2 ^ j) / 2 ^ (j + (1 + d)) ≡ h / 2 ^ (j + (1 + d))
@@ -135,11 +135,11 @@ kept : (i j h : ℕ) → (i ≡ j → ⊥) → h / 2 ^ j % 2 ≡ 0 → (h + 2 ^ 
 kept i j h ne b =
     ⊎-elim
     (λ l.
-      let e : 1 + (j - i - 1) + i ≡ j = omega arith in
-      rw e at (kept-below h i (j - i - 1)))
+    let e : 1 + (j - i - 1) + i ≡ j = omega arith in
+    rw e at (kept-below h i (j - i - 1)))
     (λ l.
-      let e : j + (1 + (i - j - 1)) ≡ i = omega arith in
-      ap (λ x. x % 2) (rw e at (kept-above h j (i - j - 1) b)))
+    let e : j + (1 + (i - j - 1)) ≡ i = omega arith in
+    ap (λ x. x % 2) (rw e at (kept-above h j (i - j - 1) b)))
     (cases-lt i j)
 
 kept-with : (m n h : ℕ) → (m % 16 ≡ n % 16 → ⊥) → bitOf n h ≡ 0 → bitOf m (h + bitWeight n) ≡ bitOf m h
@@ -153,20 +153,20 @@ kept-without m n h ne b =
     sym (kept-with m n (h - bitWeight n) ne (bit-goes n h b)) ∙ ap (bitOf m) e
 
 pub bits-kept : Bits-kept
-bits-kept =
-    ( λ m n h ne.
-        ⊎-elim
-        (λ b. ap (bitOf m) (set-from-0 n h b) ∙ kept-with m n h ne b)
-        (λ b. ap (bitOf m) (set-from-1 n h b))
-        (cases-eq (bitOf n h) 0)
-    , λ m n h ne.
-        ⊎-elim
-        (λ b. ap (bitOf m) (cleared-from-0 n h b))
-        (λ b. ap (bitOf m) (cleared-from-1 n h b) ∙ kept-without m n h ne b)
-        (cases-eq (bitOf n h) 0)
-    , λ m n h ne.
-        ⊎-elim
-        (λ b. ap (bitOf m) (flipped-from-0 n h b) ∙ kept-with m n h ne b)
-        (λ b. ap (bitOf m) (flipped-from-1 n h b) ∙ kept-without m n h ne b)
-        (cases-eq (bitOf n h) 0)
-    )
+bits-kept = (
+  λ m n h ne.
+      ⊎-elim
+      (λ b. ap (bitOf m) (set-from-0 n h b) ∙ kept-with m n h ne b)
+      (λ b. ap (bitOf m) (set-from-1 n h b))
+      (cases-eq (bitOf n h) 0),
+  λ m n h ne.
+      ⊎-elim
+      (λ b. ap (bitOf m) (cleared-from-0 n h b))
+      (λ b. ap (bitOf m) (cleared-from-1 n h b) ∙ kept-without m n h ne b)
+      (cases-eq (bitOf n h) 0),
+  λ m n h ne.
+      ⊎-elim
+      (λ b. ap (bitOf m) (flipped-from-0 n h b) ∙ kept-with m n h ne b)
+      (λ b. ap (bitOf m) (flipped-from-1 n h b) ∙ kept-without m n h ne b)
+      (cases-eq (bitOf n h) 0),
+)

@@ -31,31 +31,41 @@ pub fn bit_of(n: u32, h: u16) -> u32
 pub fn with_bit(n: u32, h: u16) -> u16
     ensures { λ r. ⌜ r ≡ withBit n h ⌝ }
 {
-    if bit_of(n, h) == 0 { h + bit_weight(n) } else { h }
+    if bit_of(n, h) == 0 {
+        h + bit_weight(n)
+    } else {
+        h
+    }
 }
 
 /// The halfword with bit `n` 0.
 pub fn without_bit(n: u32, h: u16) -> u16
     ensures { λ r. ⌜ r ≡ withoutBit n h ⌝ }
 {
-    if bit_of(n, h) == 0 { h } else { h - bit_weight(n) }
+    if bit_of(n, h) == 0 {
+        h
+    } else {
+        h - bit_weight(n)
+    }
 }
 
 /// The halfword with bit `n` complemented.
 pub fn with_bit_flipped(n: u32, h: u16) -> u16
     ensures { λ r. ⌜ r ≡ withBitFlipped n h ⌝ }
 {
-    if bit_of(n, h) == 0 { with_bit(n, h) } else { without_bit(n, h) }
+    if bit_of(n, h) == 0 {
+        with_bit(n, h)
+    } else {
+        without_bit(n, h)
+    }
 }
 
 /// A bit that was written is what was written.
 pub fn bits_written()
     ensures { λ _. ⌜ Bits-written ⌝ }
-{
-}
+{}
 
 /// The other bits stay.
 pub fn bits_kept()
     ensures { λ _. ⌜ Bits-kept ⌝ }
-{
-}
+{}

@@ -65,7 +65,11 @@ pub fn bytes_exchanged(v: u32) -> u16
 pub fn byte_at(odd: bool, h: u16) -> u8
     ensures { λ r. ⌜ r ≡ byteAt odd h ⌝ }
 {
-    if odd { (h % 0x100) as u8 } else { (h / 0x100) as u8 }
+    if odd {
+        (h % 0x100) as u8
+    } else {
+        (h / 0x100) as u8
+    }
 }
 
 /// The halfword with another byte at an odd or an even address.
@@ -90,5 +94,4 @@ pub fn device_number(v: u32) -> u32
 /// Halves joined and exchanged give the fullword again.
 pub fn halves_join()
     ensures { λ _. ⌜ Halves-joined ⌝ }
-{
-}
+{}

@@ -65,13 +65,13 @@ right-by-parts v (suc n) h l =
     rw m (or-comm (v / 2 ^ suc n) ((v * 2 ^ (32 - suc n)) % 2 ^ 32) ∙ parts-turned v (suc n) (32 - suc n) (omega arith) h ∙ sym (right-turned v (suc n) (omega arith)))
 
 pub rotates-back : Rotates-back
-rotates-back =
-    ( λ v n h l.
-        let e : n + (32 - n) ≡ 32 = omega arith in
-        let h′ : v < 2 ^ (n + (32 - n)) = rw e h in
-        right-turned (rotateLeft v n) n (omega arith) ∙ ap (λ x. turned x n (32 - n)) (left-turned v n (omega arith)) ∙ turned-back v (32 - n) n h′
-    , λ v n h l.
-        let e : 32 - n + n ≡ 32 = omega arith in
-        let h′ : v < 2 ^ (32 - n + n) = rw e h in
-        left-turned (rotateRight v n) n (omega arith) ∙ ap (λ x. turned x (32 - n) n) (right-turned v n (omega arith)) ∙ turned-back v n (32 - n) h′
-    )
+rotates-back = (
+  λ v n h l.
+      let e : n + (32 - n) ≡ 32 = omega arith in
+      let h′ : v < 2 ^ (n + (32 - n)) = rw e h in
+      right-turned (rotateLeft v n) n (omega arith) ∙ ap (λ x. turned x n (32 - n)) (left-turned v n (omega arith)) ∙ turned-back v (32 - n) n h′,
+  λ v n h l.
+      let e : 32 - n + n ≡ 32 = omega arith in
+      let h′ : v < 2 ^ (32 - n + n) = rw e h in
+      left-turned (rotateRight v n) n (omega arith) ∙ ap (λ x. turned x (32 - n) n) (right-turned v n (omega arith)) ∙ turned-back v n (32 - n) h′,
+)

@@ -127,11 +127,9 @@ pub fn rotate_left_code(v: u32, count: u32) -> u32
 /// A rotate and the rotate back give the number again.
 pub fn rotates_back()
     ensures { λ _. ⌜ Rotates-back ⌝ }
-{
-}
+{}
 
 /// A worked value of the shift to the left.
 pub fn shift_example()
     ensures { λ _. ⌜ Shift-example ⌝ }
-{
-}
+{}
