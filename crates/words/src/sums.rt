@@ -7,6 +7,15 @@ ghost use lib.Signed.{ltZ};
 ghost use lib.IntN.{_+ℤ_, _-ℤ_};
 ghost use Rattle.words.specs.Sums.{full, flag, marks, outOfRange, sum, sumCode, difference, differenceCode, compareCode, compareLogicalCode, extended};
 
+/// C of the condition code: a carry, a borrow, the last bit shifted out.
+pub const CARRY: u32 = 8;
+/// V of the condition code: a signed result out of range.
+pub const OVERFLOW: u32 = 4;
+/// G of the condition code: a positive result.
+pub const POSITIVE: u32 = 2;
+/// L of the condition code: a negative result.
+pub const NEGATIVE: u32 = 1;
+
 /// A bit of the condition code: `weight` if `b` holds, else 0.
 pub fn flag(weight: u32, b: bool) -> u32
     ensures { λ r. ⌜ r ≡ flag weight b ⌝ }
@@ -14,7 +23,7 @@ pub fn flag(weight: u32, b: bool) -> u32
     if b { weight } else { 0 }
 }
 
-/// G (2) of a positive result, L (1) of a negative one, 0 of zero.
+/// G of a positive result, L of a negative one, 0 of zero.
 pub fn marks(v: u32) -> u32
     ensures value { λ r. ⌜ r ≡ marks v ⌝ }
     ensures small { λ r. ⌜ r < 4 ⌝ }
@@ -22,9 +31,9 @@ pub fn marks(v: u32) -> u32
     if v == 0 {
         0
     } else if v < 0x8000_0000 {
-        2
+        POSITIVE
     } else {
-        1
+        NEGATIVE
     }
 }
 
@@ -54,7 +63,7 @@ pub fn sum_code(x: u32, y: u32) -> u32
     ensures value { λ r. ⌜ r ≡ sumCode x y ⌝ }
     ensures small { λ r. ⌜ r < 16 ⌝ }
 {
-    flag(8, carries(x, y)) + flag(4, sum_overflows(x, y)) + marks(sum(x, y))
+    flag(CARRY, carries(x, y)) + flag(OVERFLOW, sum_overflows(x, y)) + marks(sum(x, y))
 }
 
 /// The difference of two fullwords.
@@ -76,7 +85,7 @@ pub fn difference_code(x: u32, y: u32) -> u32
     ensures value { λ r. ⌜ r ≡ differenceCode x y ⌝ }
     ensures small { λ r. ⌜ r < 16 ⌝ }
 {
-    flag(8, x < y) + flag(4, difference_overflows(x, y)) + marks(difference(x, y))
+    flag(CARRY, x < y) + flag(OVERFLOW, difference_overflows(x, y)) + marks(difference(x, y))
 }
 
 /// Whether a signed number is less than another.
