@@ -1,0 +1,8 @@
+use mathlib.Core.Path.{_∙_}
+use Prim.Native.Nat.{_%_}
+use native.Mathlib.Omega.{arith}
+use Rattle.shifts.proofs.Turns.{left-by-parts}
+use Rattle.shifts.proofs.rotate_left.Needs as need
+
+pub returns : need.returns
+returns c = c .rotate-left .ensures ∙ left-by-parts (c .args .v) (c .args .count % 32) (omega arith) (omega arith)

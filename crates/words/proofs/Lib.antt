@@ -1,0 +1,3 @@
+mod Additions
+mod Divisions
+mod Multiples
