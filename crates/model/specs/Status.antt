@@ -66,3 +66,13 @@ counter v = v % 2 ^ 20 / 2 * 2
 -- A program address: the low 20 bits.
 unfoldable pub address : ℕ → ℕ
 address a = a % 2 ^ 20
+
+-- A halfword's address drops the last bit, a fullword's two, a PSW's three.
+unfoldable pub toHalf : ℕ → ℕ
+toHalf a = a / 2 * 2
+
+unfoldable pub toFull : ℕ → ℕ
+toFull a = a / 4 * 4
+
+unfoldable pub toPsw : ℕ → ℕ
+toPsw a = a / 8 * 8

@@ -1,13 +1,13 @@
 ghost use mathlib.Core.Path.{_≡_};
-ghost use mathlib.Core.Bool.{cond};
-ghost use Rattle.model.specs.Controller.{controllerHalf};
 ghost use Rattle.model.specs.Status.{address};
-ghost use Rattle.model.specs.Stores.{halfAt};
+ghost use Rattle.registers.specs.Parity.{isOdd};
 ghost use Rattle.model.specs.Effects.{went, andThen, translated, checked, reachesController, readAt, writtenAt, fetch, load, store as storing, check};
-ghost use Rattle.processor.specs.View.{stateOf, out, outReal, Does, Gives};
+ghost use Rattle.processor.specs.View.{stateOf, outReal, Does, Gives};
+ghost use Rattle.processor.specs.Writes.{put, putByte};
 use crate::core::Core;
 
 use bus::meaning::Bus;
+use fields::parts::with_byte;
 use model::{Access, Trap, Verdict};
 use registers::words::{ProgramAddress, RealAddress};
 use store::meaning::Store;
@@ -70,24 +70,28 @@ impl<S: Store, B: Bus> Core<S, B> {
         self.store.read(r.place())
     }
 
-    /// The halfword at a real address, and nothing changed.
-    fn peek_at(&self, r: RealAddress) -> u16
-        ensures { λ h. ⌜ h ≡ cond (reachesController (r .at) (stateOf (S·Store .meaning) (B·Bus .devices) (now (self .entry)))) (controllerHalf (now (self .entry) .controller .segments) (now (self .entry) .controller .faults) (r .at)) (halfAt (S·Store .meaning (now (self .entry) .store)) (r .at)) ⌝ }
-    {
-        if self.reaches_controller(r) {
-            return self.controller.half(r);
-        }
-        self.store.read(r.place())
-    }
-
     /// Writes at a real address, as a program does.
     fn write_at(&mut self, r: RealAddress, half: u16)
-        ensures does { λ _. ⌜ writtenAt (r .at) (λ _. half) (stateOf (S·Store .meaning) (B·Bus .devices) (now (self .entry))) ≡ stateOf (S·Store .meaning) (B·Bus .devices) (now (self .exit)) ⌝ }
+        ensures does { λ _. ⌜ writtenAt (r .at) (put half) (stateOf (S·Store .meaning) (B·Bus .devices) (now (self .entry))) ≡ stateOf (S·Store .meaning) (B·Bus .devices) (now (self .exit)) ⌝ }
         ensures quiet { λ _. ⌜ now (self .exit) .bus ≡ now (self .entry) .bus ⌝ }
     {
         if self.reaches_controller(r) {
             self.controller.write(r, half);
         } else {
+            self.store.write(r.place(), half);
+        }
+    }
+
+    /// Replaces one byte of the halfword at a real address.
+    fn write_byte_at(&mut self, r: RealAddress, odd: bool, byte: u8)
+        ensures does { λ _. ⌜ writtenAt (r .at) (putByte odd byte) (stateOf (S·Store .meaning) (B·Bus .devices) (now (self .entry))) ≡ stateOf (S·Store .meaning) (B·Bus .devices) (now (self .exit)) ⌝ }
+        ensures quiet { λ _. ⌜ now (self .exit) .bus ≡ now (self .entry) .bus ⌝ }
+    {
+        if self.reaches_controller(r) {
+            let half = with_byte(odd, self.controller.half(r), byte);
+            self.controller.write(r, half);
+        } else {
+            let half = with_byte(odd, self.store.read(r.place()), byte);
             self.store.write(r.place(), half);
         }
     }
@@ -112,11 +116,22 @@ impl<S: Store, B: Bus> Core<S, B> {
 
     /// Stores a halfword.
     pub fn store(&mut self, a: ProgramAddress, half: u16) -> Result<(), Trap>
-        ensures does { λ r. ⌜ Does (S·Store .meaning) (B·Bus .devices) (storing (a .at) (λ _. half)) (now (self .entry)) r (now (self .exit)) ⌝ }
+        ensures does { λ r. ⌜ Does (S·Store .meaning) (B·Bus .devices) (storing (a .at) (put half)) (now (self .entry)) r (now (self .exit)) ⌝ }
         ensures quiet { λ _. ⌜ now (self .exit) .bus ≡ now (self .entry) .bus ⌝ }
     {
         let r = self.translate(Access::Write, a)?;
         self.write_at(r, half);
+        Ok(())
+    }
+
+    /// Stores a byte, in one write.
+    pub fn store_byte(&mut self, a: ProgramAddress, byte: u8) -> Result<(), Trap>
+        ensures does { λ r. ⌜ Does (S·Store .meaning) (B·Bus .devices) (storing (a .at) (putByte (isOdd (a .at)) byte)) (now (self .entry)) r (now (self .exit)) ⌝ }
+        ensures quiet { λ _. ⌜ now (self .exit) .bus ≡ now (self .entry) .bus ⌝ }
+    {
+        let odd = a.is_odd();
+        let r = self.translate(Access::Write, a)?;
+        self.write_byte_at(r, odd, byte);
         Ok(())
     }
 }

@@ -1,6 +1,7 @@
 ghost use mathlib.Core.Path.{_≡_};
-ghost use Prim.Native.Nat.{_+_, _/_, _%_, _^_, _<_};
-ghost use Rattle.model.specs.Status.{waits, polls, arithmeticOn, relocated, protected, codeOf, recoded, selected, counter, address};
+ghost use Prim.Native.Nat.{_+_, _-_, _/_, _%_, _^_, _<_};
+ghost use Rattle.model.specs.Status.{waits, polls, arithmeticOn, relocated, protected, codeOf, recoded, selected, counter, address, toHalf, toFull, toPsw};
+ghost use Rattle.registers.specs.Parity.{isOdd};
 use crate::words::{ProgramAddress, Psw, RealAddress};
 
 impl Psw {
@@ -121,6 +122,41 @@ impl ProgramAddress {
         ensures { λ r. ⌜ r .at ≡ address (self .at + bytes) ⌝ }
     {
         ProgramAddress { at: (self.at + bytes as u32) % 0x10_0000 }
+    }
+
+    /// Whether it is that of a low byte.
+    pub fn is_odd(self) -> bool
+        ensures { λ r. ⌜ r ≡ isOdd (self .at) ⌝ }
+    {
+        self.at % 2 == 1
+    }
+
+    /// The address of the halfword that holds it.
+    pub fn to_half(self) -> ProgramAddress
+        ensures { λ r. ⌜ r .at ≡ toHalf (self .at) ⌝ }
+    {
+        ProgramAddress { at: self.at / 2 * 2 }
+    }
+
+    /// The address of the fullword that holds it.
+    pub fn to_full(self) -> ProgramAddress
+        ensures { λ r. ⌜ r .at ≡ toFull (self .at) ⌝ }
+    {
+        ProgramAddress { at: self.at / 4 * 4 }
+    }
+
+    /// The address of the PSW that holds it.
+    pub fn to_psw(self) -> ProgramAddress
+        ensures { λ r. ⌜ r .at ≡ toPsw (self .at) ⌝ }
+    {
+        ProgramAddress { at: self.at / 8 * 8 }
+    }
+
+    /// The address a few bytes back, in 20 bits.
+    pub fn minus(self, bytes: u16) -> ProgramAddress
+        ensures { λ r. ⌜ r .at ≡ address (self .at + (2 ^ 20 - bytes)) ⌝ }
+    {
+        ProgramAddress { at: (self.at + (0x10_0000 - bytes as u32)) % 0x10_0000 }
     }
 
     /// The real address with relocation off: both are equal.
