@@ -3,7 +3,7 @@
 use mathlib.Core.Path.{_≡_, refl, sym, _∙_, ap, subst}
 use mathlib.Core.List.{List}
 use mathlib.Core.Bool.{Bool, true, false, cond, false≢true}
-use Prim.Native.Nat.{ℕ, _/_, _%_}
+use Prim.Native.Nat.{ℕ, _/_}
 use lib.Bits.{bitOr}
 use lib.ListN.{length, getD, set, length-set}
 use lib.Seq.{getD-set-other}
@@ -12,12 +12,12 @@ use Rattle.model.specs.declared.Access.the-variants.{Fetch, Read, Write}
 use Rattle.model.specs.declared.Verdict.{Verdict}
 use Rattle.model.specs.declared.Verdict.the-variants.{Refused, Granted, Reported}
 use Rattle.model.specs.declared.Trap.the-variants.{Illegal, Refusal}
-use Rattle.model.specs.Stores.{Store, Place, shows, at, revised, halfAt}
+use Rattle.model.specs.Stores.{Store, Place, at, revised, halfAt}
 use Rattle.model.specs.Buses.{Bus}
-use Rattle.model.specs.States.{State, withStatus, withFaults, withPending, withRegisters, withStore}
+use Rattle.model.specs.States.{State, withStatus, withLocation, withFaults, withPending, withRegisters, withStore}
 use Rattle.model.specs.Status.{relocated, protected, codeOf, upper, recoded, registerCount, selected, slot, address}
-use Rattle.model.specs.Controller.{verdict, real, place, writeReport, isController}
-use Rattle.model.specs.Effects.{Out, went, stopped, Prog, ret, stop, privileged, reg, setReg, getCode, setCode, getLocation, jump, fetch, load, store, check, getStatus, setStatus, answers, sense, readFrom, writeTo, commandTo, seq, andThen, admitted, translated, inspected, checked, readAt, writtenAt, unlessProtected, run}
+use Rattle.model.specs.Controller.{verdict, real, place, writeReport}
+use Rattle.model.specs.Effects.{Out, went, stopped, Prog, ret, stop, privileged, reg, setReg, getCode, setCode, getLocation, jump, fetch, load, store, check, getStatus, setStatus, answers, sense, readFrom, writeTo, commandTo, seq, andThen, admitted, translated, inspected, checked, reachesController, readAt, writtenAt, unlessProtected, run}
 use Rattle.isolation.specs.Windows.{Protected, InWritableWindow}
 use Rattle.isolation.proofs.Views.{upper-recoded, selected-upper, protected-upper, Passes, Visible, in-view, in-writable, same-verdict, SameView, view-revised, stored-other, set-agrees, slot-set}
 
@@ -101,7 +101,7 @@ twin-code c s t h = record {
   full′ = h .full′;
 }
 
-twin-location : (l : ℕ) (s t : State) → Twin s t → Twin (Rattle.model.specs.States.withLocation l s) (Rattle.model.specs.States.withLocation l t)
+twin-location : (l : ℕ) (s t : State) → Twin s t → Twin (withLocation l s) (withLocation l t)
 twin-location l s t h = record {
   protects = h .protects;
   sameStatus = h .sameStatus;
@@ -237,12 +237,19 @@ runs-alike f g (seq p k) s t h =
     same-then (run f p s) (run g p t) (λ v u. run f (k v) u) (λ v u. run g (k v) u) (runs-alike f g p s t h) (λ v u w e. runs-alike f g (k v) u w e)
 
 -- ── Confined ──
--- What is left alone between two states, where the places outside the writable window show what held says.
-pub record KeptOf
-    (status status′ : ℕ) (registers registers′ segments segments′ : List ℕ) (bus bus′ : Bus) (store′ : Store) (held : ℕ → Place) : Type 0 where
-  pub sameUpper : upper status′ ≡ upper status
+-- What even an interrupt leaves alone, where the places outside the writable window show what held says.
+pub record TouchedOf (segments segments′ : List ℕ) (store′ : Store) (held : ℕ → Place) : Type 0 where
   pub sameSegments : segments′ ≡ segments
   pub outside : (p : ℕ) → (InWritableWindow segments p → ⊥) → at store′ p ≡ held p
+
+abbrev pub Touched : State → State → (ℕ → Place) → Type 0
+Touched s t held = TouchedOf (s .segments) (t .segments) (t .store) held
+
+-- What is left alone besides where there is no interrupt.
+pub record KeptOf
+    (status status′ : ℕ) (registers registers′ segments segments′ : List ℕ) (bus bus′ : Bus) (store′ : Store) (held : ℕ → Place) : Type 0 where
+  pub touched : TouchedOf segments segments′ store′ held
+  pub sameUpper : upper status′ ≡ upper status
   pub otherSets : (k n : ℕ) → (k ≡ selected status → ⊥) → getD registers′ (slot k n) 0 ≡ getD registers (slot k n) 0
   pub sameBus : bus′ ≡ bus
 
@@ -250,20 +257,29 @@ abbrev pub Kept : State → State → (ℕ → Place) → Type 0
 Kept s t held =
     KeptOf (s .status) (t .status) (s .registers) (t .registers) (s .segments) (t .segments) (s .bus) (t .bus) (t .store) held
 
+-- The store alone is altered.
+pub kept-but-store : (s : State) (m : Store) (held : ℕ → Place) → ((p : ℕ) → (InWritableWindow (s .segments) p → ⊥) → at m p ≡ held p) → Kept s (withStore m s) held
+kept-but-store s m held e =
+    record { touched = record { sameSegments = refl; outside = e }; sameUpper = refl; otherSets = λ _ _ _. refl; sameBus = refl }
+
 pub kept-same : (s : State) → Kept s s (at (s .store))
-kept-same s = record { sameUpper = refl; sameSegments = refl; outside = λ _ _. refl; otherSets = λ _ _ _. refl; sameBus = refl }
+kept-same s = kept-but-store s (s .store) (at (s .store)) (λ _ _. refl)
 
 -- One after the other: later says what each place shows in the end, by what it showed between.
-pub kept-trans :
-    (s t u : State) (held : ℕ → Place) (later : ℕ → Place → Place) → Kept s t held → Kept t u (λ p. later p (at (t .store) p)) →
-    Kept s u (λ p. later p (held p))
-kept-trans s t u held later h k = record {
-  sameUpper = k .sameUpper ∙ h .sameUpper;
-  sameSegments = k .sameSegments ∙ h .sameSegments;
-  outside = λ p o. k .outside p (subst (λ (g : List ℕ). InWritableWindow g p → ⊥) (sym (h .sameSegments)) o) ∙ ap (later p) (h .outside p o);
-  otherSets = λ j n o. k .otherSets j n (λ e. o (e ∙ selected-upper (t .status) (s .status) (h .sameUpper))) ∙ h .otherSets j n o;
-  sameBus = k .sameBus ∙ h .sameBus;
-}
+module _ (s t u : State) (held : ℕ → Place) (later : ℕ → Place → Place) (h : Kept s t held) where
+  pub touched-then : Touched t u (λ p. later p (at (t .store) p)) → Touched s u (λ p. later p (held p))
+  touched-then k = let e = h .touched .sameSegments in record {
+    sameSegments = k .sameSegments ∙ e;
+    outside = λ p o. k .outside p (subst (λ (g : List ℕ). InWritableWindow g p → ⊥) (sym e) o) ∙ ap (later p) (h .touched .outside p o);
+  }
+
+  pub kept-trans : Kept t u (λ p. later p (at (t .store) p)) → Kept s u (λ p. later p (held p))
+  kept-trans k = record {
+    touched = touched-then (k .touched);
+    sameUpper = k .sameUpper ∙ h .sameUpper;
+    otherSets = λ j n o. k .otherSets j n (λ e. o (e ∙ selected-upper (t .status) (s .status) (h .sameUpper))) ∙ h .otherSets j n o;
+    sameBus = k .sameBus ∙ h .sameBus;
+  }
 
 abbrev pub KeptBy : State → Out → Type 0
 KeptBy s (went v t) = Kept s t (at (s .store))
@@ -289,13 +305,9 @@ kept-read Granted r s = kept-same s
 kept-read Reported r s = kept-same s
 
 kept-store : (p : ℕ) (f : ℕ → ℕ) (s : State) → InWritableWindow (s .segments) p → Kept s (withStore (revised (s .store) p f) s) (at (s .store))
-kept-store p f s w = record {
-  sameUpper = refl;
-  sameSegments = refl;
-  outside = λ q o. stored-other (s .store) p q (f (s .store .word p)) (λ e. o (subst (InWritableWindow (s .segments)) (sym e) w));
-  otherSets = λ _ _ _. refl;
-  sameBus = refl;
-}
+kept-store p f s w =
+    kept-but-store s (revised (s .store) p f) (at (s .store))
+    (λ q o. stored-other (s .store) p q (f (s .store .word p)) (λ e. o (subst (InWritableWindow (s .segments)) (sym e) w)))
 
 kept-write : (v : Verdict) (r : ℕ) (f : ℕ → ℕ) (s : State) → (Passes v → InWritableWindow (s .segments) (r / 2)) → KeptBy s (writeBy v r f s)
 kept-write (Refused b) r f s w = kept-same s
@@ -329,16 +341,15 @@ runs-kept f (stop c) s g = kept-same s
 runs-kept f privileged s g = forbidden-kept s g _
 runs-kept f (reg n) s g = kept-same s
 runs-kept f (setReg n v) s g = record {
+  touched = kept-same s .touched;
   sameUpper = refl;
-  sameSegments = refl;
-  outside = λ _ _. refl;
   otherSets = λ k j o.
       getD-set-other (s .registers) (slot (selected (s .status)) n) (slot k j) v 0 (λ e. o (slot-set k (selected (s .status)) j n e));
   sameBus = refl;
 }
 runs-kept f getCode s g = kept-same s
 runs-kept f (setCode c) s g =
-    record { sameUpper = upper-recoded (s .status) c; sameSegments = refl; outside = λ _ _. refl; otherSets = λ _ _ _. refl; sameBus = refl }
+    record { touched = kept-same s .touched; sameUpper = upper-recoded (s .status) c; otherSets = λ _ _ _. refl; sameBus = refl }
 runs-kept f getLocation s g = kept-same s
 runs-kept f (jump a) s g = kept-same s
 runs-kept f (fetch a) s g = reads-kept s g Fetch a
@@ -384,14 +395,11 @@ full-translated : (u : Access) (a : ℕ) (s : State) → Full s → FullOut (tra
 full-translated u a s h = full-if (relocated (s .status)) _ _ (full-admitted (verdict u (s .segments) a) _ s h) h
 
 full-read : (r : ℕ) (s : State) → Full s → FullOut (readAt r s)
-full-read r s h = full-if (Rattle.model.specs.Effects.reachesController r s) _ _ h h
+full-read r s h = full-if (reachesController r s) _ _ h h
 
 full-written : (b : Bool) (s t : State) → Full s → Full t → Full (cond b s t)
 full-written true s t h k = h
 full-written false s t h k = k
-
-full-unless : (b : Bool) (s : State) (x : Out) → Full s → FullOut x → FullOut (cond b (stopped Illegal s) x)
-full-unless b s x h k = full-if b _ x h k
 
 pub runs-full : (f : Bus) (p : Prog) (s : State) → Full s → FullOut (run f p s)
 runs-full f (ret v) s h = h
@@ -407,7 +415,7 @@ runs-full f (fetch a) s h = full-then (translated Fetch (address a) s) readAt (f
 runs-full f (load a) s h = full-then (translated Read (address a) s) readAt (full-translated Read (address a) s h) full-read
 runs-full f (store a w) s h =
     full-then (translated Write (address a) s) (λ r t. went 0 (writtenAt r w t)) (full-translated Write (address a) s h)
-    (λ r t k. full-written (Rattle.model.specs.Effects.reachesController r t) _ _ k k)
+    (λ r t k. full-written (reachesController r t) _ _ k k)
 runs-full f (check u a) s h = full-if (relocated (s .status)) _ _ (full-inspected (verdict u (s .segments) (address a)) s h) h
 runs-full f getStatus s h = full-if (protected (s .status)) _ _ h h
 runs-full f (setStatus v) s h = full-if (protected (s .status)) _ _ h h
