@@ -6,3 +6,4 @@ pub mod Doings
 pub mod Followers
 pub mod Confinement
 pub mod Whole
+pub mod Example

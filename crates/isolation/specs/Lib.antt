@@ -1,3 +1,4 @@
 pub mod Windows
 pub mod Calls
 pub mod Isolation
+pub mod Example
