@@ -1,5 +1,5 @@
 -- What a list of calls leaves alone.
-use mathlib.Core.Path.{_≡_, refl, sym, _∙_, ap, subst}
+use mathlib.Core.Path.{_≡_, refl}
 use mathlib.Core.List.{List, [], _∷_}
 use Prim.Native.Nat.{ℕ}
 use Rattle.model.specs.declared.StepAnswer.the-variants.{Done, Waiting}

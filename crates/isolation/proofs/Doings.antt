@@ -1,6 +1,6 @@
 -- What one call of a list is: either none of the program's business, or an accepted step.
 use mathlib.Core.Path.{_≡_, refl, sym, _∙_, ap, subst}
-use mathlib.Core.List.{List, []}
+use mathlib.Core.List.{List}
 use mathlib.Core.Bool.{Bool, true, false, _||_, cond}
 use Prim.Native.Nat.{ℕ, _/_}
 use native.Mathlib.Omega.{arith}
@@ -14,10 +14,10 @@ use Rattle.model.specs.Buses.{Bus}
 use Rattle.model.specs.States.{State, withStore}
 use Rattle.model.specs.Effects.{Prog}
 use Rattle.model.specs.Steps.{Ending, finished, waiting, took, stepped}
-use Rattle.model.specs.Answers.{Answer, done, shown, accepted}
-use Rattle.model.specs.Console.{Desk, withKey, orElse, denyIf, keyDenial, isUnfitted, isFixed, strange, denial, Did, gives, withCore, didStep, itemOf, unlessDenied}
+use Rattle.model.specs.Answers.{Answer, done, accepted}
+use Rattle.model.specs.Console.{Desk, withKey, orElse, denyIf, keyDenial, isUnfitted, isFixed, strange, denial, gives, withCore, didStep, unlessDenied}
 use Rattle.isolation.specs.Windows.{InWindow}
-use Rattle.isolation.specs.Calls.{Continued, key, examine, deposit, show, step, act, Event, unseen, answered, interrupted, seen, Course, quiet, broken, NoDeviceInterrupt, ahead, joined, did, after, event, Outside, byDeposit}
+use Rattle.isolation.specs.Calls.{Continued, key, examine, deposit, show, step, act, Event, unseen, seen, Course, quiet, broken, NoDeviceInterrupt, ahead, joined, after, event, Outside, byDeposit}
 use Rattle.isolation.proofs.Views.{stored-other}
 use Rattle.isolation.proofs.Steps.{NotDevice}
 

@@ -1,15 +1,15 @@
 -- The two machines of the example are there, and meet every premise.
 use mathlib.Core.Path.{_≡_, refl, sym, _∙_, ap, subst}
 use mathlib.Core.List.{List, [], _∷_}
-use mathlib.Core.Bool.{Bool, true, false, cond, false≢true}
-use Prim.Native.Nat.{ℕ, zero, suc, _+_, _*_, _/_, _%_, _^_, _<_, _≤_}
+use mathlib.Core.Bool.{Bool, true, false, false≢true}
+use Prim.Native.Nat.{ℕ, zero, suc, _+_, _*_, _/_, _%_, _^_, _<_}
 use native.Mathlib.Omega.{arith}
 use lib.Dec.{eqb, leb, T, leb→le, eqb→eq}
 use lib.ListN.{getD, set, replicate}
 use lib.Seq.{getD-set-other}
 use Rattle.model.specs.declared.StepAnswer.the-variants.{Waiting}
 use Rattle.model.specs.declared.Reason.the-variants.{Waited}
-use Rattle.model.specs.declared.Item.the-variants.{General, Segment, Status}
+use Rattle.model.specs.declared.Item.the-variants.{Segment, Status}
 use Rattle.model.specs.Stores.{at, fullAt}
 use Rattle.model.specs.Status.{waits, polls, relocated, protected, selected, slot, noSet, fileOf, counter, address}
 use Rattle.model.specs.Controller.{limitOf, relocationOf, noExecuteOf, writeModeOf, presentOf, used, chosen, block, within, present, noExecute, writeMode, real, place}
@@ -19,7 +19,7 @@ use Rattle.model.specs.Runs.{Steps}
 use Rattle.model.specs.Tapes.{commandOf, spellFrom, ends, goesOn}
 use Rattle.isolation.specs.Windows.{InWindow}
 use Rattle.isolation.specs.Calls.{Reached, new, called, ran, played as byTape}
-use Rattle.isolation.specs.Example.{meaning, board, devices, one, other, Example}
+use Rattle.isolation.specs.Example.{meaning, board, devices, other, Example}
 
 -- ── The window ──
 -- The segmentation registers of both: the first has P set and a limit of one block.
@@ -43,7 +43,7 @@ unfolding chosen block within present limitOf relocationOf real place
 window-low p i =
     let a = i .0 in
     let r = i .1 in
-    let e = first-present (a / 2 ^ 16 % 16) (r .fitted) in
+    let e = first-present (a / 2 ^ 16 % 16) (r .presence) in
     let l : leb (a / 2 ^ 8 % 2 ^ 8) 0 ≡ true = ap (λ (x : ℕ). leb (a / 2 ^ 8 % 2 ^ 8) (getD segments x 0 / 2 ^ 20 % 2 ^ 8)) (sym e) ∙ r .limited in
     let m = leb→le (a / 2 ^ 8 % 2 ^ 8) 0 (subst T (sym l) tt) in
     let q : ((0 + a / 2 ^ 8 % 2 ^ 8) % 2 ^ 12 * 2 ^ 8 + a % 2 ^ 8) / 2 ≡ p =

@@ -9,18 +9,17 @@ use Rattle.model.specs.declared.Record.{Record}
 use Rattle.model.specs.declared.StepAnswer.the-variants.{Done, Waiting, Interrupted}
 use Rattle.model.specs.Stores.{Store, Place, at}
 use Rattle.model.specs.States.{State, withStore}
-use Rattle.model.specs.Status.{selected, slot}
 use Rattle.model.specs.Controller.{place}
 use Rattle.model.specs.Effects.{Prog}
 use Rattle.model.specs.Steps.{Ending, finished, waiting, took, poll, proceeded, stepped as stepOf}
 use Rattle.model.specs.Answers.{Answer, done, stepped}
 use Rattle.model.specs.Console.{Desk}
-use Rattle.isolation.specs.Windows.{Protected, InWindow}
+use Rattle.isolation.specs.Windows.{InWindow}
 use Rattle.isolation.specs.Calls.{Continued, Event, Course, quiet, broken, answers, NoDeviceInterrupt, ahead, joined, after, event, course, AllOutside, byDeposit}
 use Rattle.isolation.specs.Isolation.{SameAnswers, SavesTheSame, SameSaving}
 use Rattle.isolation.proofs.Views.{view-of, view-sym, view-trans}
-use Rattle.isolation.proofs.Effects.{Twin, Touched, Kept}
-use Rattle.isolation.proofs.Steps.{SameEnd, SameTaken, KeptEnd, served-alike, served-kept}
+use Rattle.isolation.proofs.Effects.{Twin}
+use Rattle.isolation.proofs.Steps.{SameEnd, KeptEnd, served-alike, served-kept}
 use Rattle.isolation.proofs.Doings.{eventOf, coreOf, Doing, apart, stepping, doing, no-device, no-device-later}
 
 -- ── Beside ──
@@ -171,7 +170,7 @@ module _ (meaning : ℕ → Prog) where
   same-breaks p q u v (finished s) h k = absurd h
   same-breaks p q u v (waiting s) h k = absurd h
   same-breaks p q u v (took r s) h k =
-      record { status = h .status ∙ sym (k .status); location = h .location ∙ sym (k .location); one = h .one; other = k .one }
+      record { status = h .status ∙ sym (k .status); location = h .location ∙ sym (k .location); oneSaves = h .oneSaves; otherSaves = k .oneSaves }
 
   not-both : (p : Record) (u : State) (e : Ending) → Goes e → Breaks p u e → ⊥
   not-both p u (finished s) g b = b

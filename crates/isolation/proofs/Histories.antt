@@ -1,5 +1,5 @@
 -- Every machine that calls lead to has all its registers.
-use mathlib.Core.Path.{_≡_, refl, sym, _∙_, ap, subst}
+use mathlib.Core.Path.{refl, sym, _∙_, ap, subst}
 use mathlib.Core.List.{List}
 use Prim.Native.Nat.{ℕ, zero, suc, _-_}
 use lib.ListN.{length, length-set}
@@ -15,10 +15,10 @@ use Rattle.model.specs.States.{State}
 use Rattle.model.specs.Status.{fileOf, slot}
 use Rattle.model.specs.Effects.{Prog}
 use Rattle.model.specs.Steps.{Ending, finished, waiting, took, stepped, Over, over, overWith}
-use Rattle.model.specs.Answers.{on, Answer}
-use Rattle.model.specs.Console.{Desk, withKey, offDenial, Act, turnKey, initialise, examine, deposit, setItem, showItem, step, denial, Did, withItem, didStep, unlessDenied, obeyed, call}
-use Rattle.model.specs.Runs.{Moves, Steps, runDenial, RunsUnless, Runs}
-use Rattle.model.specs.Tapes.{Order, point, obey, go, Spelling, spell, Obeys, Playing, ends, breaks, halts, goesOn, PlaysUnless, Plays}
+use Rattle.model.specs.Answers.{Answer}
+use Rattle.model.specs.Console.{Desk, offDenial, Act, turnKey, initialise, examine, deposit, setItem, showItem, step, denial, Did, withItem, didStep, unlessDenied, obeyed, call}
+use Rattle.model.specs.Runs.{Moves, Steps, runDenial, RunsUnless}
+use Rattle.model.specs.Tapes.{Order, point, obey, go, Spelling, Obeys, Playing, ends, breaks, halts, goesOn, PlaysUnless}
 use Rattle.isolation.specs.Calls.{Reached, new, called, ran, played}
 use Rattle.isolation.proofs.Effects.{Full}
 use Rattle.isolation.proofs.Steps.{FullEnd, steps-full}

@@ -1,8 +1,8 @@
 -- One step, with the interrupt that it takes.
-use mathlib.Core.Path.{_≡_, refl, sym, _∙_, ap, subst}
+use mathlib.Core.Path.{_≡_, refl, _∙_, ap, subst}
 use mathlib.Core.List.{List}
 use mathlib.Core.Bool.{Bool, true, false, cond, false≢true, true≢false}
-use Prim.Native.Nat.{ℕ, _+_, _*_}
+use Prim.Native.Nat.{ℕ}
 use native.Mathlib.Omega.{arith}
 use lib.ListN.{length, getD, set, length-set}
 use lib.Seq.{getD-set-same, getD-set-other}
@@ -18,9 +18,9 @@ use Rattle.model.specs.Buses.{Bus}
 use Rattle.model.specs.States.{State, withPending}
 use Rattle.model.specs.Status.{waits, arithmeticOn, registerCount, slot}
 use Rattle.model.specs.Effects.{Out, went, stopped, Prog, run}
-use Rattle.model.specs.Steps.{Ending, finished, waiting, took, recorded, intoZero, saved, loaded, interrupted, supervised, ended, poll, cycle, proceeded, served, stepped}
+use Rattle.model.specs.Steps.{Ending, finished, waiting, took, recorded, intoZero, saved, loaded, interrupted, ended, poll, cycle, proceeded, served, stepped}
 use Rattle.isolation.specs.Windows.{Protected}
-use Rattle.isolation.specs.Isolation.{Saves, SavesTheSame}
+use Rattle.isolation.specs.Isolation.{SavesTheSame}
 use Rattle.isolation.proofs.Effects.{Twin, SameOut, runs-alike, Touched, Kept, KeptBy, kept-same, runs-kept, Full, FullOut, runs-full}
 
 -- ── Alike ──
@@ -64,8 +64,8 @@ taken-alike c own o x y x′ y′ registers registers′ s t e f h k = record {
   saving = record {
     status = e;
     location = f;
-    one = record { status = saved-status registers (s .status) own h; location = saved-location registers (s .status) own h };
-    other = record { status = saved-status registers′ (t .status) o k; location = saved-location registers′ (t .status) o k };
+    oneSaves = record { status = saved-status registers (s .status) own h; location = saved-location registers (s .status) own h };
+    otherSaves = record { status = saved-status registers′ (t .status) o k; location = saved-location registers′ (t .status) o k };
   };
 }
 

@@ -3,19 +3,17 @@ use mathlib.Core.Path.{_≡_, refl, sym, _∙_, ap, subst}
 use mathlib.Core.Logic.{_↔_}
 use mathlib.Core.List.{List, [], _∷_}
 use mathlib.Core.Bool.{Bool, true, false, cond}
-use Prim.Native.Nat.{ℕ, zero, suc, _+_, _*_, _/_, _%_, _^_, _<_}
+use Prim.Native.Nat.{ℕ, zero, suc, _/_, _%_, _^_, _<_}
 use native.Mathlib.Omega.{arith}
 use lib.Dec.{eqb, T, eqb→eq, eqb-refl}
-use lib.ListN.{length, getD, set, length-set}
+use lib.ListN.{length, getD, set}
 use Rattle.model.specs.declared.Access.{Access}
 use Rattle.model.specs.declared.Access.the-variants.{Fetch, Read, Write}
-use Rattle.model.specs.declared.Kind.{Kind}
 use Rattle.model.specs.declared.Verdict.{Verdict}
 use Rattle.model.specs.declared.Verdict.the-variants.{Refused, Granted, Reported}
-use Rattle.model.specs.Stores.{Store, Place, shows, at, taken, stored, revised}
-use Rattle.model.specs.States.{State}
-use Rattle.model.specs.Status.{relocated, protected, upper, recoded, selected, slot, registerCount, address}
-use Rattle.model.specs.Controller.{within, present, noExecute, writeMode, letsWrite, onWrite, judged, verdict, real, place}
+use Rattle.model.specs.Stores.{Store, at, stored, revised}
+use Rattle.model.specs.Status.{relocated, protected, upper, recoded, selected, slot, address}
+use Rattle.model.specs.Controller.{within, present, noExecute, writeMode, letsWrite, judged, verdict, place}
 use Rattle.isolation.specs.Windows.{Protected, Reaches, InWritableWindow}
 
 -- ── Status ──
@@ -74,7 +72,7 @@ pub in-view : (u : Access) (segments : List ℕ) (a : ℕ) → Passes (verdict u
 in-view u segments a p =
     let b = address a in
     let w = passes-window u (within segments b) (present segments b) (noExecute segments b) (writeMode segments b) p in
-    record { short = address-short a; limited = w .0; fitted = w .1; there = refl }
+    record { short = address-short a; limited = w .0; presence = w .1; there = refl }
 
 pub in-writable : (segments : List ℕ) (a : ℕ) → Passes (verdict Write segments (address a)) → InWritableWindow segments (place segments (address a))
 in-writable segments a p =
@@ -108,7 +106,7 @@ same-verdict g h e u a =
     cc
 
 visible : (g h : List ℕ) → SameChecks g h → (a : ℕ) → Visible g a → Visible h a
-visible g h e a w = record { short = w .short; limited = sym (e .limits a) ∙ w .limited; fitted = sym (e .presence a) ∙ w .fitted; there = refl }
+visible g h e a w = record { short = w .short; limited = sym (e .limits a) ∙ w .limited; presence = sym (e .presence a) ∙ w .presence; there = refl }
 
 -- ── The same view ──
 -- Each address reaches equal places, and two that reach one place here reach one place there.

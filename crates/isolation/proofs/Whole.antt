@@ -2,7 +2,7 @@
 use mathlib.Core.Path.{_≡_, refl, sym, _∙_, ap, subst}
 use mathlib.Core.List.{List, [], _∷_}
 use Prim.Native.Nat.{ℕ, zero, suc}
-use lib.ListN.{length, take}
+use lib.ListN.{take}
 use Rattle.model.specs.Stores.{at}
 use Rattle.model.specs.States.{State}
 use Rattle.model.specs.Controller.{place}
@@ -15,7 +15,7 @@ use Rattle.isolation.proofs.Views.{SameView, view-of, Visible}
 use Rattle.isolation.proofs.Effects.{Full, Twin}
 use Rattle.isolation.proofs.Histories.{full-reached}
 use Rattle.isolation.proofs.Doings.{no-device-later}
-use Rattle.isolation.proofs.Followers.{beside, follows, same-answers, StillTwin, still-twin, same-saving}
+use Rattle.isolation.proofs.Followers.{follows, same-answers, StillTwin, still-twin, same-saving}
 use Rattle.isolation.proofs.Confinement.{confined}
 
 -- ── First parts of a list ──
@@ -98,7 +98,7 @@ twin-alike s t e h = record {
   window = λ p i.
       let x = i .0 in
       let r = i .1 in
-      let w : Visible (s .segments) x = record { short = r .short; limited = r .limited; fitted = r .fitted; there = refl } in
+      let w : Visible (s .segments) x = record { short = r .short; limited = r .limited; presence = r .presence; there = refl } in
       ap (at (s .store)) (sym (r .there)) ∙ h .view .window x w ∙ ap (at (t .store)) (ap (λ (g : List ℕ). place g x) (sym e) ∙ r .there);
 }
 

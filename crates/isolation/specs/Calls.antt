@@ -91,7 +91,7 @@ joined unseen s rest = rest
 joined (answered a) s rest = ahead a rest
 joined (interrupted a r) s rest = broken (a ∷ []) r s
 
--- The place x after a call, unless it took no interrupt: then what the rest of the list makes of it.
+-- What a place shows in the end: what it showed after a call that took an interrupt, else what the rest of the list makes of it.
 abbrev pub heldThrough : Event → Place → Place → Place
 heldThrough unseen x rest = rest
 heldThrough (answered a) x rest = rest

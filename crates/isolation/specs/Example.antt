@@ -12,9 +12,9 @@ use Rattle.model.specs.declared.Cause.the-variants.{SupervisorCall}
 use Rattle.model.specs.declared.StepAnswer.the-variants.{Done, Interrupted}
 use Rattle.model.specs.declared.Item.the-variants.{General, Segment, Status}
 use Rattle.model.specs.Stores.{Store}
-use Rattle.model.specs.Buses.{Device, Bus}
+use Rattle.model.specs.Buses.{Bus}
 use Rattle.model.specs.Effects.{Prog, stop, getLocation, jump, seq}
-use Rattle.model.specs.Answers.{Answer, stepped}
+use Rattle.model.specs.Answers.{stepped}
 use Rattle.model.specs.Console.{Desk, Act, setItem, made, call}
 use Rattle.isolation.specs.Windows.{LookAlike}
 use Rattle.isolation.specs.Calls.{Reached, Continued, key, examine, deposit, step, answers, course}

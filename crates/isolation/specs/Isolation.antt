@@ -35,8 +35,8 @@ pub record Saves (r : Record) (s : State) : Type 0 where
 pub record SavesTheSame (r q : Record) (s t : State) : Type 0 where
   pub status : r .status ≡ q .status
   pub location : r .location ≡ q .location
-  pub one : Saves r s
-  pub other : Saves q t
+  pub oneSaves : Saves r s
+  pub otherSaves : Saves q t
 
 -- Where both lists reach an interrupt, the first of each saves the same.
 abbrev pub SameSaving : Course → Course → Type 0

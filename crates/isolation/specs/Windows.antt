@@ -18,7 +18,7 @@ pub record Protected (status : ℕ) : Type 0 where
 pub record Reaches (segments : List ℕ) (a p : ℕ) : Type 0 where
   pub short : a < 2 ^ 20
   pub limited : within segments a ≡ true
-  pub fitted : present segments a ≡ true
+  pub presence : present segments a ≡ true
   pub there : place segments a ≡ p
 
 -- The window: the places that the program's addresses reach, whatever E and W.
