@@ -16,7 +16,7 @@ use Rattle.isolation.specs.Isolation.{Confined, Allowed}
 use Rattle.isolation.proofs.Views.{protected-upper}
 use Rattle.isolation.proofs.Effects.{Touched, Kept, kept-but-store, kept-same, touched-then, kept-trans}
 use Rattle.isolation.proofs.Steps.{KeptEnd, served-kept}
-use Rattle.isolation.proofs.Doings.{eventOf, coreOf, Doing, apart, stepping, doing, no-device, no-device-later}
+use Rattle.isolation.proofs.Calls.{eventOf, coreOf, Doing, apart, stepping, doing, no-device, no-device-later}
 
 abbrev KeptCourse : State → (ℕ → Place) → Course → Type 0
 KeptCourse s held (quiet xs u) = Kept s u held
@@ -34,25 +34,29 @@ kept-ahead : (s : State) (held : ℕ → Place) (a : Answer) (rest : Course) →
 kept-ahead s held a (quiet xs u) h = h
 kept-ahead s held a (broken xs q u) h = h
 
--- One call that takes no interrupt, then a rest.
+-- What is left alone before a rest, by a call that takes no interrupt.
 kept-rest :
     (s t : State) (held : ℕ → Place) (later : ℕ → Place → Place) (rest : Course) → Kept s t held →
     KeptCourse t (λ p. later p (at (t .store) p)) rest → KeptCourse s (λ p. later p (held p)) rest
 kept-rest s t held later (quiet xs u) h k = kept-trans s t u held later h k
 kept-rest s t held later (broken xs q u) h k = touched-then s t u held later h k
 
--- A step, then a rest.
+-- .. by a step that takes none.
+kept-goes :
+    (s t : State) (a : Answer) (later : ℕ → Place → Place) (rest : Course) → Kept s t (at (s .store)) → NoDeviceInterrupt (ahead a rest) →
+    (upper (t .status) ≡ upper (s .status) → NoDeviceInterrupt rest → KeptCourse t (λ p. later p (at (t .store) p)) rest) →
+    KeptCourse s (λ p. later p (at (s .store) p)) (ahead a rest)
+kept-goes s t a later rest k d f =
+    kept-ahead s _ a rest (kept-rest s t (at (s .store)) later rest k (f (k .sameUpper) (no-device-later a rest d)))
+
+-- .. by any step.
 kept-step :
     (w : Desk) (e : Ending) (later : ℕ → Place → Place) (rest : Course) → KeptEnd (w .core) e →
     NoDeviceInterrupt (joined (eventOf w e) (coreOf w e) rest) →
     (upper (coreOf w e .status) ≡ upper (w .core .status) → NoDeviceInterrupt rest → KeptCourse (coreOf w e) (λ p. later p (at (coreOf w e .store) p)) rest) →
     KeptCourse (w .core) (λ p. heldThrough (eventOf w e) (at (w .core .store) p) (later p (at (w .core .store) p))) (joined (eventOf w e) (coreOf w e) rest)
-kept-step w (finished t) later rest k d f =
-    kept-ahead (w .core) _ (stepped Done) rest
-    (kept-rest (w .core) t (at (w .core .store)) later rest k (f (k .sameUpper) (no-device-later (stepped Done) rest d)))
-kept-step w (waiting t) later rest k d f =
-    kept-ahead (w .core) _ (stepped Waiting) rest
-    (kept-rest (w .core) t (at (w .core .store)) later rest k (f (k .sameUpper) (no-device-later (stepped Waiting) rest d)))
+kept-step w (finished t) later rest k d f = kept-goes (w .core) t (stepped Done) later rest k d f
+kept-step w (waiting t) later rest k d f = kept-goes (w .core) t (stepped Waiting) later rest k d f
 kept-step w (took q t) later rest k d f = k
 
 module _ (meaning : ℕ → Prog) where
@@ -63,7 +67,7 @@ module _ (meaning : ℕ → Prog) where
       KeptCourse (w .core) (λ p. heldThrough e (held p (at (w .core .store) p)) (later p (held p (at (w .core .store) p)))) (joined e u rest)
   kept-one g w e u held later rest (apart m _ places _) h d f =
       kept-rest (w .core) (withStore m (w .core)) (λ p. held p (at (w .core .store) p)) later rest
-        (kept-but-store (w .core) m _ (λ p _. places p)) (f refl d)
+      (kept-but-store (w .core) m _ (λ p _. places p)) (f refl d)
   kept-one g w e u held later rest (stepping reply) h d f =
       let x = stepOf meaning reply (w .core) in
       kept-step w x later rest (served-kept meaning reply (poll (w .core)) (w .core) h (no-device w x (coreOf w x) rest d)) d f
@@ -74,7 +78,7 @@ module _ (meaning : ℕ → Prog) where
   kept-list [] g w h o d = kept-same (w .core)
   kept-list (c ∷ l) g w h o d =
       kept-one g w (event meaning c w) (after meaning c w .core) (λ p x. byDeposit meaning p c w x) (λ p x. byDeposits meaning p l (after meaning c w) x)
-        (course meaning l (after meaning c w)) (doing meaning g w c (o .0)) h d
+      (course meaning l (after meaning c w)) (doing meaning g w c (o .0)) h d
       (λ e d′. kept-list l g (after meaning c w) (protected-upper (after meaning c w .core .status) (w .core .status) e h) (o .1) d′)
 
   pub confined : (w : Desk) (l : List Continued) → Protected (w .core .status) → Allowed meaning w l → Confined meaning w l

@@ -115,14 +115,14 @@ twin-location l s t h = record {
 twin-register :
     (n v : ℕ) (s t : State) → Twin s t →
     Twin (withRegisters (set (s .registers) (slot (selected (s .status)) n) v) s)
-      (withRegisters (set (t .registers) (slot (selected (t .status)) n) v) t)
+    (withRegisters (set (t .registers) (slot (selected (t .status)) n) v) t)
 twin-register n v s t h = record {
   protects = h .protects;
   sameStatus = h .sameStatus;
   sameLocation = h .sameLocation;
   sameRegisters = λ j.
       set-agrees (s .registers) (t .registers) (slot (selected (s .status)) n) (slot (selected (s .status)) j) v (h .full ∙ sym (h .full′))
-        (h .sameRegisters j ∙ sym (ap (λ (x : ℕ). getD (t .registers) (slot (selected x) j) 0) (h .sameStatus)))
+      (h .sameRegisters j ∙ sym (ap (λ (x : ℕ). getD (t .registers) (slot (selected x) j) 0) (h .sameStatus)))
       ∙ ap (λ (x : ℕ). getD (set (t .registers) (slot (selected x) n) v) (slot (selected x) j) 0) (h .sameStatus);
   view = h .view;
   full = length-set (s .registers) (slot (selected (s .status)) n) v ∙ h .full;

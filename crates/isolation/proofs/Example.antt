@@ -47,7 +47,7 @@ window-low p i =
     let l : leb (a / 2 ^ 8 % 2 ^ 8) 0 ≡ true = ap (λ (x : ℕ). leb (a / 2 ^ 8 % 2 ^ 8) (getD segments x 0 / 2 ^ 20 % 2 ^ 8)) (sym e) ∙ r .limited in
     let m = leb→le (a / 2 ^ 8 % 2 ^ 8) 0 (subst T (sym l) tt) in
     let q : ((0 + a / 2 ^ 8 % 2 ^ 8) % 2 ^ 12 * 2 ^ 8 + a % 2 ^ 8) / 2 ≡ p =
-        ap (λ (x : ℕ). ((getD segments x 0 / 2 ^ 8 % 2 ^ 12 + a / 2 ^ 8 % 2 ^ 8) % 2 ^ 12 * 2 ^ 8 + a % 2 ^ 8) / 2) (sym e) ∙ r .there in
+    ap (λ (x : ℕ). ((getD segments x 0 / 2 ^ 8 % 2 ^ 12 + a / 2 ^ 8 % 2 ^ 8) % 2 ^ 12 * 2 ^ 8 + a % 2 ^ 8) / 2) (sym e) ∙ r .there in
     omega arith
 
 board-low : (x y p : ℕ) → p < 128 → at (board x) p ≡ at (board y) p

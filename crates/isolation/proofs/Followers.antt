@@ -20,7 +20,7 @@ use Rattle.isolation.specs.Isolation.{SameAnswers, SavesTheSame, SameSaving}
 use Rattle.isolation.proofs.Views.{view-of, view-sym, view-trans}
 use Rattle.isolation.proofs.Effects.{Twin}
 use Rattle.isolation.proofs.Steps.{SameEnd, KeptEnd, served-alike, served-kept}
-use Rattle.isolation.proofs.Doings.{eventOf, coreOf, Doing, apart, stepping, doing, no-device, no-device-later}
+use Rattle.isolation.proofs.Calls.{eventOf, coreOf, Doing, apart, stepping, doing, no-device, no-device-later}
 
 -- ── Beside ──
 -- A call apart from the program leaves its machine beside the other.
@@ -32,7 +32,7 @@ twin-apart s r m e h = record {
   sameLocation = h .sameLocation;
   sameRegisters = h .sameRegisters;
   view = view-trans (s .segments) (s .segments) (r .segments) m (s .store) (r .store)
-    (view-of (s .segments) m (s .store) (λ a w. e (place (s .segments) a) (a, w))) (h .view);
+      (view-of (s .segments) m (s .store) (λ a w. e (place (s .segments) a) (a, w))) (h .view);
   full = h .full;
   full′ = h .full′;
 }
@@ -45,7 +45,7 @@ beside s t r h k = record {
   sameLocation = h .sameLocation ∙ sym (k .sameLocation);
   sameRegisters = λ n. h .sameRegisters n ∙ sym (k .sameRegisters n);
   view = view-trans (s .segments) (r .segments) (t .segments) (s .store) (r .store) (t .store) (h .view)
-    (view-sym (t .segments) (r .segments) (t .store) (r .store) (k .view));
+      (view-sym (t .segments) (r .segments) (t .store) (r .store) (k .view));
   full = h .full;
   full′ = k .full;
 }
@@ -100,21 +100,28 @@ module _ (meaning : ℕ → Prog) where
   follows-ahead a (quiet xs u) r e g h = ((e, h .0), h .1)
   follows-ahead a (broken xs q u) r e g h = ((e, h .0), (suc (h .1 .0), (g, h .1 .1)))
 
-  -- A step, then a rest.
+  -- A step without an interrupt, which left s and which the other machine ends by x, then a rest.
+  follows-goes :
+      (segments : List ℕ) (r : State) (a : Answer) (s : State) (x : Ending) (rest : Course) → calm r ≡ x → a ≡ answerOf x → Goes x →
+      Twin s (stateOf x) → s .segments ≡ segments → NoDeviceInterrupt (ahead a rest) →
+      ((r : State) → Twin s r → s .segments ≡ segments → NoDeviceInterrupt rest → Follows rest r) → Follows (ahead a rest) r
+  follows-goes g r a s x rest c e y h i d f =
+      follows-ahead a rest r (e ∙ ap answerOf (sym c)) (subst Goes (sym c) y)
+      (f (next r) (subst (λ (z : Ending). Twin s (stateOf z)) (sym c) h) i (no-device-later a rest d))
+
+  -- Any step, then a rest.
   follows-step :
       (segments : List ℕ) (w : Desk) (r : State) (e x : Ending) (rest : Course) → calm r ≡ x → SameEnd e x → KeptEnd (w .core) e →
       w .core .segments ≡ segments → NoDeviceInterrupt (joined (eventOf w e) (coreOf w e) rest) →
       ((r : State) → Twin (coreOf w e) r → coreOf w e .segments ≡ segments → NoDeviceInterrupt rest → Follows rest r) →
       Follows (joined (eventOf w e) (coreOf w e) rest) r
   follows-step g w r (finished a) (finished b) rest c h k i d f =
-      follows-ahead (stepped Done) rest r (ap answerOf (sym c)) (subst Goes (sym c) tt)
-      (f (next r) (subst (λ (z : Ending). Twin a (stateOf z)) (sym c) h) (k .touched .sameSegments ∙ i) (no-device-later (stepped Done) rest d))
+      follows-goes g r (stepped Done) a (finished b) rest c refl tt h (k .touched .sameSegments ∙ i) d f
   follows-step g w r (finished a) (waiting b) rest c h k i d f = absurd h
   follows-step g w r (finished a) (took q b) rest c h k i d f = absurd h
   follows-step g w r (waiting a) (finished b) rest c h k i d f = absurd h
   follows-step g w r (waiting a) (waiting b) rest c h k i d f =
-      follows-ahead (stepped Waiting) rest r (ap answerOf (sym c)) (subst Goes (sym c) tt)
-      (f (next r) (subst (λ (z : Ending). Twin a (stateOf z)) (sym c) h) (k .touched .sameSegments ∙ i) (no-device-later (stepped Waiting) rest d))
+      follows-goes g r (stepped Waiting) a (waiting b) rest c refl tt h (k .touched .sameSegments ∙ i) d f
   follows-step g w r (waiting a) (took q b) rest c h k i d f = absurd h
   follows-step g w r (took p a) (finished b) rest c h k i d f = absurd h
   follows-step g w r (took p a) (waiting b) rest c h k i d f = absurd h
@@ -133,7 +140,7 @@ module _ (meaning : ℕ → Prog) where
       let x = stepOf meaning reply s in
       let n = no-device w x (coreOf w x) rest d in
       follows-step g w r x (calm r) rest refl (served-alike meaning reply (r .bus) (poll s) s r h n)
-        (served-kept meaning reply (poll s) s (h .protects) n) i d f
+      (served-kept meaning reply (poll s) s (h .protects) n) i d f
 
   pub follows :
       (l : List Continued) (segments : List ℕ) (w : Desk) (r : State) → Twin (w .core) r → w .core .segments ≡ segments →
@@ -141,7 +148,7 @@ module _ (meaning : ℕ → Prog) where
   follows [] g w r h i o d = (tt, h)
   follows (c ∷ l) g w r h i o d =
       follows-one g w r (event meaning c w) (after meaning c w .core) (λ p x. byDeposit meaning p c w x) (course meaning l (after meaning c w))
-        (doing meaning g w c (o .0)) h i d
+      (doing meaning g w c (o .0)) h i d
       (λ r′ h′ i′ d′. follows l g (after meaning c w) r′ h′ i′ (o .1) d′)
 
   -- ── Two that follow one ──

@@ -82,16 +82,16 @@ stopped-alike : (own o : ℕ) (c : Trap) (s t : State) → own ≡ o → Twin s 
 stopped-alike own o Illegal s t e h = interrupted-alike IllegalInstruction 0x30 own o s t h e
 stopped-alike own o Arithmetic s t e h =
     same-cond (arithmeticOn (s .status)) (arithmeticOn (t .status)) _ _ _ _ (ap arithmeticOn (h .sameStatus))
-      (interrupted-alike ArithmeticFault 0x48 (s .location) (t .location) s t h (h .sameLocation)) h
+    (interrupted-alike ArithmeticFault 0x48 (s .location) (t .location) s t h (h .sameLocation)) h
 stopped-alike own o Refusal s t e h = interrupted-alike AccessFault 0x90 own o s t h e
 stopped-alike own o (Supervisor n a) s t e h =
     taken-alike SupervisorCall (s .location) (t .location) _ _ _ _ (intoZero 13 a (s .registers)) (intoZero 13 a (t .registers)) s t
-      (h .sameStatus) (h .sameLocation) (length-set (s .registers) (slot 0 13) a ∙ h .full) (length-set (t .registers) (slot 0 13) a ∙ h .full′)
+    (h .sameStatus) (h .sameLocation) (length-set (s .registers) (slot 0 13) a ∙ h .full) (length-set (t .registers) (slot 0 13) a ∙ h .full′)
 
 ends-alike : (own o : ℕ) (x y : Out) → own ≡ o → SameOut x y → SameEnd (ended own x) (ended o y)
 ends-alike own o (went v s) (went w t) e h =
     same-cond (s .pending) (t .pending) _ _ _ _ (h .1 .0)
-      (interrupted-alike AccessFault 0x90 (s .location) (t .location) s t (h .1 .1) (h .1 .1 .sameLocation)) (h .1 .1)
+    (interrupted-alike AccessFault 0x90 (s .location) (t .location) s t (h .1 .1) (h .1 .1 .sameLocation)) (h .1 .1)
 ends-alike own o (went v s) (stopped d t) e h = absurd h
 ends-alike own o (stopped c s) (went w t) e h = absurd h
 ends-alike own o (stopped c s) (stopped d t) e h =
@@ -144,7 +144,7 @@ module _ (meaning : ℕ → Prog) where
   served-alike f g None s t h d =
       same-cond (waits (s .status)) (waits (t .status)) _ _ _ _ (ap waits (h .sameStatus)) h
       (ends-alike (s .location) (t .location) (run f (cycle meaning) (withPending false s)) (run g (cycle meaning) (withPending false t)) (h .sameLocation)
-        (runs-alike f g (cycle meaning) (withPending false s) (withPending false t) (refl, h)))
+      (runs-alike f g (cycle meaning) (withPending false s) (withPending false t) (refl, h)))
 
   pub served-kept : (f : Bus) (o : Option ℕ) (s : State) → Protected (s .status) → NotDevice (served meaning f o s) → KeptEnd s (served meaning f o s)
   served-kept f (Some n) s g d = absurd (d refl)

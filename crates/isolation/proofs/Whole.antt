@@ -14,7 +14,7 @@ use Rattle.isolation.specs.Isolation.{SameAnswers, StillAlike, SameSaving, All
 use Rattle.isolation.proofs.Views.{SameView, view-of, Visible}
 use Rattle.isolation.proofs.Effects.{Full, Twin}
 use Rattle.isolation.proofs.Histories.{full-reached}
-use Rattle.isolation.proofs.Doings.{no-device-later}
+use Rattle.isolation.proofs.Calls.{no-device-later}
 use Rattle.isolation.proofs.Followers.{follows, same-answers, StillTwin, still-twin, same-saving}
 use Rattle.isolation.proofs.Confinement.{confined}
 
@@ -82,7 +82,7 @@ alike-twin s t a m n = record {
   sameLocation = a .location;
   sameRegisters = a .registers;
   view = subst (λ (g : List ℕ). SameView (s .segments) g (s .store) (t .store)) (a .segments)
-    (view-of (s .segments) (s .store) (t .store) (λ x w. a .window (place (s .segments) x) (x, w)));
+      (view-of (s .segments) (s .store) (t .store) (λ x w. a .window (place (s .segments) x) (x, w)));
   full = m;
   full′ = n;
 }

@@ -31,7 +31,8 @@ pub data Reached (meaning : ℕ → Prog) (m : Store) (b : Bus) : Desk → Type 
       Reached meaning m b w → Plays meaning cap tape w q a v p → Reached meaning m b v
 
 -- ── From now on ──
--- The calls that leave a protected program alone. A step finds room in the trace, and has the replies of the devices that it touches.
+-- The calls that a machine is given while a protected program runs on it: all but initialise, set, run and play. A step finds room in
+-- the trace, and a device that it touches then shows what it shows in the reply.
 pub data Continued : Type 0 where
   key : ℕ → Continued
   examine : ℕ → Continued

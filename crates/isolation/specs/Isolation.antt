@@ -47,25 +47,27 @@ SameSaving (broken xs r s) (broken ys q t) = SavesTheSame r q s t
 module _ (meaning : ℕ → Prog) where
   -- ── Confinement ──
   -- What the list l leaves alone in the machine w. Through the first interrupt: the segmentation registers, and every place outside
-  -- the writable window, up to deposits. Before it: every register set but the selected one, status bits 0 to 27, and the bus.
+  -- the writable window, which shows the last deposit accepted there, else what it showed before. Before it: every register set k of the
+  -- file but the selected one, status bits 0 to 27, and the whole bus.
   pub record Confined (w : Desk) (l : List Continued) : Type 0 where
     pub segments : final (course meaning l w) .segments ≡ w .core .segments
     pub places :
-      (p : ℕ) → (InWritableWindow (w .core .segments) p → ⊥) →
-      at (final (course meaning l w) .store) p ≡ byDeposits meaning p l w (at (w .core .store) p)
+        (p : ℕ) → (InWritableWindow (w .core .segments) p → ⊥) →
+        at (final (course meaning l w) .store) p ≡ byDeposits meaning p l w (at (w .core .store) p)
     pub otherSets :
-      Quiet (course meaning l w) → (k n : ℕ) → (k ≡ selected (w .core .status) → ⊥) →
-      getD (final (course meaning l w) .registers) (slot k n) 0 ≡ getD (w .core .registers) (slot k n) 0
+        Quiet (course meaning l w) → (k n : ℕ) → (k ≡ selected (w .core .status) → ⊥) →
+        getD (final (course meaning l w) .registers) (slot k n) 0 ≡ getD (w .core .registers) (slot k n) 0
     pub status : Quiet (course meaning l w) → upper (final (course meaning l w) .status) ≡ upper (w .core .status)
     pub devices : Quiet (course meaning l w) → final (course meaning l w) .bus ≡ w .core .bus
 
   -- ── The whole ──
-  -- What the list l may do to the machine w: no deposit in the window that is there at its start, and no device interrupt as the first.
+  -- What is asked of the list l for the machine w: no deposit in the window that is there at its start, and no device's interrupt as the
+  -- first of its interrupts.
   pub record Allowed (w : Desk) (l : List Continued) : Type 0 where
     pub outside : AllOutside meaning (w .core .segments) l w
     pub undisturbed : NoDeviceInterrupt (course meaning l w)
 
-  -- Two machines, each with a list of its own; what holds of lists is said of every first part of them.
+  -- Two machines, each with a list of its own: every answer, every first part of each list (i and j calls of them), and the saving.
   pub record Isolated (w v : Desk) (l k : List Continued) : Type 0 where
     pub sameAnswers : SameAnswers (course meaning l w) (course meaning k v)
     pub stillAlike : (i j : ℕ) → StillAlike (course meaning (take i l) w) (course meaning (take j k) v)
