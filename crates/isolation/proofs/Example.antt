@@ -11,7 +11,7 @@ use Rattle.model.specs.declared.StepAnswer.the-variants.{Waiting}
 use Rattle.model.specs.declared.Reason.the-variants.{Waited}
 use Rattle.model.specs.declared.Item.the-variants.{Segment, Status}
 use Rattle.model.specs.Stores.{at, fullAt}
-use Rattle.model.specs.Status.{waits, polls, relocated, protected, selected, slot, noSet, fileOf, counter, address}
+use Rattle.model.specs.Status.{waits, polls, relocated, protected, selected, slot, registerCount, noSet, fileOf, counter, address}
 use Rattle.model.specs.Controller.{limitOf, relocationOf, noExecuteOf, writeModeOf, presentOf, used, chosen, block, within, present, noExecute, writeMode, real, place}
 use Rattle.model.specs.Answers.{done, ran as didRun, played}
 use Rattle.model.specs.Console.{strange, setItem, made}
@@ -97,7 +97,7 @@ example = record {
     otherProtects = record { relocates = refl; forbids = refl };
     status = refl;
     location = refl;
-    registers = λ n. sym (getD-set-other (replicate 32 0) 3 (16 + n % 16) 7 0 (λ e. omega arith));
+    registers = λ n. sym (getD-set-other (replicate registerCount 0) (slot 0 3) (slot 1 n) 7 0 (λ e. omega arith));
     segments = refl;
     window = λ p i. board-low 5 6 p (window-low p i);
   };
@@ -109,6 +109,7 @@ example = record {
     outside = (tt, (tt, ((λ _ i. let h = window-low 200 i in omega arith), (tt, ((λ e. absurd (false≢true e)), (tt, (tt, tt)))))));
     undisturbed = λ e. let z : _≡_ {A = ℕ} 0 1 = cc in omega arith;
   };
+  depositAccepted = refl;
   oneAnswers = refl;
   otherAnswers = refl;
 }

@@ -11,13 +11,13 @@ use Rattle.model.specs.declared.Trap.the-variants.{Supervisor}
 use Rattle.model.specs.declared.Cause.the-variants.{SupervisorCall}
 use Rattle.model.specs.declared.StepAnswer.the-variants.{Done, Interrupted}
 use Rattle.model.specs.declared.Item.the-variants.{General, Segment, Status}
-use Rattle.model.specs.Stores.{Store}
+use Rattle.model.specs.Stores.{Store, shows, at}
 use Rattle.model.specs.Buses.{Bus}
 use Rattle.model.specs.Effects.{Prog, stop, getLocation, jump, seq}
 use Rattle.model.specs.Answers.{stepped}
 use Rattle.model.specs.Console.{Desk, Act, setItem, made, call}
 use Rattle.isolation.specs.Windows.{LookAlike}
-use Rattle.isolation.specs.Calls.{Reached, Continued, key, examine, deposit, step, answers, course}
+use Rattle.isolation.specs.Calls.{Reached, Continued, key, examine, deposit, step, answers, course, byDeposits}
 use Rattle.isolation.specs.Isolation.{Allowed}
 
 -- The halfword 0 goes on to the next; any other calls the supervisor.
@@ -61,5 +61,6 @@ pub record Example : Type 0 where
   pub busesDiffer : one .core .bus 1 .requests ≡ other .core .bus 1 .requests → ⊥
   pub oneAllowed : Allowed meaning one plain
   pub otherAllowed : Allowed meaning other mixed
+  pub depositAccepted : byDeposits meaning 200 mixed other (at (other .core .store) 200) ≡ shows Writable 9
   pub oneAnswers : answers (course meaning plain one) ≡ (stepped Done ∷ stepped (Interrupted SupervisorCall) ∷ [])
   pub otherAnswers : answers (course meaning mixed other) ≡ (stepped Done ∷ stepped (Interrupted SupervisorCall) ∷ [])
