@@ -46,6 +46,7 @@ not-denied None false Writable e = refl
 not-denied None false Fixed e = let z : _≡_ {A = ℕ} 0 1 = cc in absurd (omega arith)
 not-denied None false Unfitted e = let z : _≡_ {A = ℕ} 0 1 = cc in absurd (omega arith)
 
+-- What a store shows after a deposit in the writable place q.
 filled-if :
     (m : Store) (q p v : ℕ) (b : Bool) → m .kind q ≡ Writable → eqb p q ≡ b →
     shows (m .kind p) (cond b (taken (m .kind q) (m .word p) v) (m .word p)) ≡ cond b (shows Writable v) (at m p)
@@ -59,6 +60,7 @@ filled : (m : Store) (q p v : ℕ) → m .kind q ≡ Writable → at (stored m q
 filled m q p v e = filled-if m q p v (eqb p q) e refl
 
 module _ (meaning : ℕ → Prog) (segments : List ℕ) (w : Desk) where
+  -- A call that alters nothing.
   untouched : (u : State) → u ≡ w .core → Doing meaning segments w unseen u (λ p x. x)
   untouched u e =
       subst (λ (z : State). Doing meaning segments w unseen z (λ p x. x)) (sym e)
@@ -69,6 +71,7 @@ module _ (meaning : ℕ → Prog) (segments : List ℕ) (w : Desk) where
   idle (Some n) a v e = untouched (w .core) refl
   idle None a v e = untouched (v .core) e
 
+  -- A deposit, by its denial d.
   depositing :
       (a v : ℕ) (d : Option ℕ) →
       let x = unlessDenied d w (gives done (withCore (withStore (stored (w .core .store) (a / 2) v) (w .core)) w)) in
@@ -81,11 +84,13 @@ module _ (meaning : ℕ → Prog) (segments : List ℕ) (w : Desk) where
       apart (stored m (a / 2) v) (λ p y. cond (eqb p (a / 2)) (shows Writable v) y) (λ p. filled m (a / 2) p v k)
       (λ p i. stored-other m (a / 2) p v (λ f. o refl (subst (InWindow segments) f i)))
 
+  -- A step, by its denial d.
   asked : (d : Option ℕ) (reply : Bus) → let x = unlessDenied d w (didStep w (stepped meaning reply (w .core))) in
       Doing meaning segments w (seen (x .answer) (x .added)) (x .after .core) (λ p y. y)
   asked (Some n) reply = untouched (w .core) refl
   asked None reply = stepping reply
 
+  -- Every call of a list.
   pub doing : (c : Continued) → Outside meaning segments c w → Doing meaning segments w (event meaning c w) (after meaning c w .core) (λ p x. byDeposit meaning p c w x)
   doing (key n) o = idle (denial (act (key n)) w) done (withKey n w) refl
   doing (examine a) o = idle (denial (act (examine a)) w) _ w refl
@@ -94,6 +99,7 @@ module _ (meaning : ℕ → Prog) (segments : List ℕ) (w : Desk) where
   doing (step room reply) o = asked (denial (act (step room reply)) w) reply
 
 -- ── Interrupts of devices ──
+-- A list whose first interrupt is no device's begins with a step that takes none, and so goes on.
 pub no-device : (w : Desk) (e : Ending) (u : State) (rest : Course) → NoDeviceInterrupt (joined (eventOf w e) u rest) → NotDevice e
 no-device w (finished s) u rest h = tt
 no-device w (waiting s) u rest h = tt

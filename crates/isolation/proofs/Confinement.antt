@@ -18,6 +18,7 @@ use Rattle.isolation.proofs.Effects.{Touched, Kept, kept-but-store, kept-same,
 use Rattle.isolation.proofs.Steps.{KeptEnd, served-kept}
 use Rattle.isolation.proofs.Calls.{eventOf, coreOf, Doing, apart, stepping, doing, no-device, no-device-later}
 
+-- What a course from s on leaves alone: all of it before an interrupt, less through one.
 abbrev KeptCourse : State → (ℕ → Place) → Course → Type 0
 KeptCourse s held (quiet xs u) = Kept s u held
 KeptCourse s held (broken xs q u) = Touched s u held
@@ -60,6 +61,7 @@ kept-step w (waiting t) later rest k d f = kept-goes (w .core) t (stepped Waitin
 kept-step w (took q t) later rest k d f = k
 
 module _ (meaning : ℕ → Prog) where
+  -- .. by any call.
   kept-one :
       (segments : List ℕ) (w : Desk) (e : Event) (u : State) (held later : ℕ → Place → Place) (rest : Course) → Doing meaning segments w e u held →
       Protected (w .core .status) → NoDeviceInterrupt (joined e u rest) →
@@ -72,6 +74,7 @@ module _ (meaning : ℕ → Prog) where
       let x = stepOf meaning reply (w .core) in
       kept-step w x later rest (served-kept meaning reply (poll (w .core)) (w .core) h (no-device w x (coreOf w x) rest d)) d f
 
+  -- A whole list.
   kept-list :
       (l : List Continued) (segments : List ℕ) (w : Desk) → Protected (w .core .status) → AllOutside meaning segments l w →
       NoDeviceInterrupt (course meaning l w) → KeptCourse (w .core) (λ p. byDeposits meaning p l w (at (w .core .store) p)) (course meaning l w)

@@ -22,6 +22,7 @@ use Rattle.isolation.specs.Windows.{Protected, InWritableWindow}
 use Rattle.isolation.proofs.Views.{upper-recoded, selected-upper, protected-upper, Passes, Visible, in-view, in-writable, same-verdict, SameView, view-revised, stored-other, set-agrees, slot-set}
 
 -- ── Accesses with relocation on ──
+-- A read and a write at the real address r that the controller has judged.
 abbrev readBy : Verdict → ℕ → State → Out
 readBy (Refused b) r s = stopped Refusal (withFaults (bitOr (s .faults) b) s)
 readBy Granted r s = went (halfAt (s .store) r) s
@@ -32,6 +33,7 @@ writeBy (Refused b) r f s = stopped Refusal (withFaults (bitOr (s .faults) b) s)
 writeBy Granted r f s = went 0 (withStore (revised (s .store) (r / 2) f) s)
 writeBy Reported r f s = went 0 (withStore (revised (s .store) (r / 2) f) (withPending true (withFaults (bitOr (s .faults) writeReport) s)))
 
+-- Relocation on, an access never reaches the controller's own addresses.
 judged-read : (v : Verdict) (r : ℕ) (s : State) → relocated (s .status) ≡ true → andThen (admitted v r s) readAt ≡ readBy v r s
 judged-read (Refused b) r s e = refl
 judged-read Granted r s e = rw e
@@ -130,6 +132,7 @@ twin-register n v s t h = record {
 }
 
 -- ── Alike ──
+-- Both go on with the same number, or stop for the same reason; and stay beside each other.
 abbrev pub SameOut : Out → Out → Type 0
 SameOut (went v s) (went w t) = (v ≡ w) × Abreast s t
 SameOut (went v s) (stopped d t) = ⊥
@@ -143,6 +146,7 @@ both-on true false x y u v p q h = absurd (false≢true q)
 both-on false true x y u v p q h = absurd (false≢true p)
 both-on false false x y u v p q h = absurd (false≢true p)
 
+-- One after the other.
 same-then :
     (x y : Out) (f g : ℕ → State → Out) → SameOut x y → ((v : ℕ) (s t : State) → Abreast s t → SameOut (f v s) (g v t)) →
     SameOut (andThen x f) (andThen y g)
@@ -151,6 +155,7 @@ same-then (went v s) (stopped d t) f g h k = absurd h
 same-then (stopped c s) (went w t) f g h k = absurd h
 same-then (stopped c s) (stopped d t) f g h k = h
 
+-- The accesses, once judged: what is done is in view.
 same-read :
     (v : Verdict) (r q : ℕ) (s t : State) → Abreast s t → (Passes v → at (s .store) (r / 2) ≡ at (t .store) (q / 2)) →
     SameOut (readBy v r s) (readBy v q t)
@@ -212,6 +217,7 @@ module _ (s t : State) (h : Abreast s t) where
   forbidden-alike x y =
       both-on (protected (s .status)) (protected (t .status)) (stopped Illegal s) (stopped Illegal t) x y (h .1 .protects .forbids) forbids′ (refl, h .1)
 
+-- The induction.
 pub runs-alike : (f g : Bus) (p : Prog) (s t : State) → Abreast s t → SameOut (run f p s) (run g p t)
 runs-alike f g (ret v) s t h = (refl, h)
 runs-alike f g (stop c) s t h = (refl, h .1)
@@ -281,6 +287,7 @@ module _ (s t u : State) (held : ℕ → Place) (later : ℕ → Place → Place
     sameBus = k .sameBus ∙ h .sameBus;
   }
 
+-- .. by a tree of effects, however it ends.
 abbrev pub KeptBy : State → Out → Type 0
 KeptBy s (went v t) = Kept s t (at (s .store))
 KeptBy s (stopped c t) = Kept s t (at (s .store))
@@ -335,6 +342,7 @@ module _ (s : State) (g : Protected (s .status)) where
   forbidden-kept : (x : Out) → KeptBy s (unlessProtected s x)
   forbidden-kept x = kept-on (protected (s .status)) s (stopped Illegal s) x (g .forbids) (kept-same s)
 
+-- The induction.
 pub runs-kept : (f : Bus) (p : Prog) (s : State) → Protected (s .status) → KeptBy s (run f p s)
 runs-kept f (ret v) s g = kept-same s
 runs-kept f (stop c) s g = kept-same s
@@ -366,6 +374,7 @@ runs-kept f (commandTo n v) s g = forbidden-kept s g _
 runs-kept f (seq p k) s g = kept-then s (run f p s) (λ v u. run f (k v) u) g (runs-kept f p s g) (λ v u e. runs-kept f (k v) u e)
 
 -- ── All registers stay, of any tree and any machine ──
+-- No register is missing.
 abbrev pub Full : State → Type 0
 Full s = length (s .registers) ≡ registerCount
 
@@ -401,6 +410,7 @@ full-written : (b : Bool) (s t : State) → Full s → Full t → Full (cond b s
 full-written true s t h k = h
 full-written false s t h k = k
 
+-- The induction.
 pub runs-full : (f : Bus) (p : Prog) (s : State) → Full s → FullOut (run f p s)
 runs-full f (ret v) s h = h
 runs-full f (stop c) s h = h

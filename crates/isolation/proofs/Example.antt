@@ -26,6 +26,7 @@ use Rattle.isolation.specs.Example.{meaning, board, devices, other, Example}
 abbrev segments : List ℕ
 segments = set (replicate 16 0) 0 0x10
 
+-- An element of zeros is zero.
 zeros : (n i : ℕ) → _≡_ {A = ℕ} (getD (replicate n 0) i 0) 0
 zeros zero i = refl
 zeros (suc n) zero = refl

@@ -51,6 +51,7 @@ beside s t r h k = record {
 }
 
 -- ── The machine that only steps ──
+-- What a step answers, and what it leaves.
 abbrev answerOf : Ending → Answer
 answerOf (finished s) = stepped Done
 answerOf (waiting s) = stepped Waiting
@@ -73,6 +74,7 @@ Breaks q u (waiting s) = ⊥
 Breaks q u (took r s) = SavesTheSame q r u s
 
 module _ (meaning : ℕ → Prog) where
+  -- Its step, and the processor after it.
   abbrev calm : State → Ending
   calm r = proceeded meaning (r .bus) r
 
@@ -92,6 +94,7 @@ module _ (meaning : ℕ → Prog) where
   BreaksAt zero q u r = Breaks q u (calm r)
   BreaksAt (suc n) q u r = Goes (calm r) × BreaksAt n q u (next r)
 
+  -- A course that goes as that machine goes.
   abbrev pub Follows : Course → State → Type 0
   Follows (quiet xs u) r = Matches xs r × EndsBeside xs u r
   Follows (broken xs q u) r = Matches xs r × ((n : ℕ) × BreaksAt n q u r)
@@ -142,6 +145,7 @@ module _ (meaning : ℕ → Prog) where
       follows-step g w r x (calm r) rest refl (served-alike meaning reply (r .bus) (poll s) s r h n)
       (served-kept meaning reply (poll s) s (h .protects) n) i d f
 
+  -- Every list of calls goes so, from a machine beside it.
   pub follows :
       (l : List Continued) (segments : List ℕ) (w : Desk) (r : State) → Twin (w .core) r → w .core .segments ≡ segments →
       AllOutside meaning segments l w → NoDeviceInterrupt (course meaning l w) → Follows (course meaning l w) r
@@ -173,6 +177,7 @@ module _ (meaning : ℕ → Prog) where
   ends-beside (x ∷ xs) [] u v r h k e = absurd (omega arith)
   ends-beside (x ∷ xs) (y ∷ ys) u v r h k e = ends-beside xs ys u v (next r) h k (omega arith)
 
+  -- Two interrupts that are each like that of the machine that only steps; it takes just one first.
   same-breaks : (p q : Record) (u v : State) (e : Ending) → Breaks p u e → Breaks q v e → SavesTheSame p q u v
   same-breaks p q u v (finished s) h k = absurd h
   same-breaks p q u v (waiting s) h k = absurd h

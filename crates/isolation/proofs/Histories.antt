@@ -24,6 +24,7 @@ use Rattle.isolation.proofs.Effects.{Full}
 use Rattle.isolation.proofs.Steps.{FullEnd, steps-full}
 
 -- ── Calls ──
+-- A call, by its denial d.
 full-unless : (d : Option ℕ) (w : Desk) (x : Did) → Full (w .core) → Full (x .after .core) → Full (unlessDenied d w x .after .core)
 full-unless (Some n) w x h k = h
 full-unless None w x h k = k
@@ -40,6 +41,7 @@ full-did w (waiting s) h = h
 full-did w (took r s) h = h
 
 -- ── Runs ──
+-- The processor that a step leaves.
 abbrev stateOf : Over → State
 stateOf (over a s q) = s
 

@@ -24,10 +24,12 @@ use Rattle.isolation.specs.Isolation.{SavesTheSame}
 use Rattle.isolation.proofs.Effects.{Twin, SameOut, runs-alike, Touched, Kept, KeptBy, kept-same, runs-kept, Full, FullOut, runs-full}
 
 -- ── Alike ──
+-- Two interrupts of one cause that save the same.
 pub record SameTaken (r q : Record) (s t : State) : Type 0 where
   pub cause : r .cause ≡ q .cause
   pub saving : SavesTheSame r q s t
 
+-- Both end alike.
 abbrev pub SameEnd : Ending → Ending → Type 0
 SameEnd (finished s) (finished t) = Twin s t
 SameEnd (finished s) (waiting t) = ⊥
@@ -39,6 +41,7 @@ SameEnd (took r s) (finished t) = ⊥
 SameEnd (took r s) (waiting t) = ⊥
 SameEnd (took r s) (took q t) = SameTaken r q s t
 
+-- The step took no device's interrupt.
 abbrev pub NotDevice : Ending → Type 0
 NotDevice (finished s) = Unit {0}
 NotDevice (waiting s) = Unit {0}
@@ -78,6 +81,7 @@ same-cond true false x y u v e h k = absurd (true≢false e)
 same-cond false true x y u v e h k = absurd (false≢true e)
 same-cond false false x y u v e h k = k
 
+-- The instruction's own address, own and o, is the same too.
 stopped-alike : (own o : ℕ) (c : Trap) (s t : State) → own ≡ o → Twin s t → SameEnd (ended own (stopped c s)) (ended o (stopped c t))
 stopped-alike own o Illegal s t e h = interrupted-alike IllegalInstruction 0x30 own o s t h e
 stopped-alike own o Arithmetic s t e h =
@@ -98,6 +102,7 @@ ends-alike own o (stopped c s) (stopped d t) e h =
     subst (λ (x : Trap). SameEnd (ended own (stopped c s)) (ended o (stopped x t))) (h .0) (stopped-alike own o c s t e (h .1))
 
 -- ── Confined ──
+-- What a step leaves alone.
 abbrev pub KeptEnd : State → Ending → Type 0
 KeptEnd s (finished t) = Kept s t (at (s .store))
 KeptEnd s (waiting t) = Kept s t (at (s .store))
@@ -115,6 +120,7 @@ ends-kept own s (stopped Refusal t) h = h .touched
 ends-kept own s (stopped (Supervisor n a) t) h = h .touched
 
 -- ── All registers stay ──
+-- However the step ends.
 abbrev pub FullEnd : Ending → Type 0
 FullEnd (finished s) = Full s
 FullEnd (waiting s) = Full s

@@ -17,6 +17,7 @@ use Rattle.model.specs.Controller.{within, present, noExecute, writeMode, letsW
 use Rattle.isolation.specs.Windows.{Protected, Reaches, InWritableWindow}
 
 -- ── Status ──
+-- What bits 0 to 27 decide, another condition code leaves.
 pub upper-recoded : (status c : ℕ) → upper (recoded status c) ≡ upper status
 unfolding upper recoded
 upper-recoded status c = omega arith
@@ -47,6 +48,7 @@ Passes Reported = Unit {0}
 abbrev pub Visible : List ℕ → ℕ → Type 0
 Visible segments a = Reaches segments a (place segments a)
 
+-- An access that is done was within the limit, with P set; a write with a W that lets it.
 passes-window : (u : Access) (w p e : Bool) (m : ℕ) → Passes (judged u w p e m) → (w ≡ true) × (p ≡ true)
 passes-window u false p e m h = absurd h
 passes-window u true false e m h = absurd h
@@ -68,6 +70,7 @@ address-short : (a : ℕ) → address a < 2 ^ 20
 unfolding address
 address-short a = omega arith
 
+-- The place of an access that is done is in the window; that of a write in the writable one.
 pub in-view : (u : Access) (segments : List ℕ) (a : ℕ) → Passes (verdict u segments (address a)) → Visible segments (address a)
 in-view u segments a p =
     let b = address a in
@@ -95,7 +98,12 @@ checks-sym g h e =
 
 checks-trans : (g h i : List ℕ) → SameChecks g h → SameChecks h i → SameChecks g i
 checks-trans g h i e f =
-    record { limits = λ a. e .limits a ∙ f .limits a; presence = λ a. e .presence a ∙ f .presence a; execution = λ a. e .execution a ∙ f .execution a; writing = λ a. e .writing a ∙ f .writing a }
+    record {
+      limits = λ a. e .limits a ∙ f .limits a;
+      presence = λ a. e .presence a ∙ f .presence a;
+      execution = λ a. e .execution a ∙ f .execution a;
+      writing = λ a. e .writing a ∙ f .writing a;
+    }
 
 pub same-verdict : (g h : List ℕ) → SameChecks g h → (u : Access) (a : ℕ) → verdict u g a ≡ verdict u h a
 same-verdict g h e u a =
@@ -138,6 +146,7 @@ view-trans g h i m n o v w = record {
       ((λ e. q .0 (p .0 e)), (λ e. p .1 (q .1 e)));
 }
 
+-- Two tests of equality that answer alike.
 eqb-iff : (a b c d : ℕ) → (a ≡ b) ↔ (c ≡ d) → eqb a b ≡ eqb c d
 eqb-iff a b c d h = go (eqb a b) (eqb c d) refl refl
   where
@@ -166,6 +175,7 @@ view-revised g h m n a f w v = record {
 }
 
 -- ── Stores and registers ──
+-- A write leaves the other places; a register write, in two files alike at j, leaves them alike there.
 pub stored-other : (m : Store) (p q v : ℕ) → (q ≡ p → ⊥) → at (stored m p v) q ≡ at m q
 stored-other m p q v h = go (eqb q p) refl
   where
@@ -183,6 +193,7 @@ set-agrees (x ∷ xs) (y ∷ ys) zero (suc j) v n e = e
 set-agrees (x ∷ xs) (y ∷ ys) (suc i) zero v n e = e
 set-agrees (x ∷ xs) (y ∷ ys) (suc i) (suc j) v n e = set-agrees xs ys i j v (omega arith) e
 
+-- A slot belongs to one set.
 pub slot-set : (j k m n : ℕ) → slot j m ≡ slot k n → j ≡ k
 unfolding slot
 slot-set j k m n h = omega arith

@@ -19,7 +19,10 @@ use Rattle.isolation.proofs.Followers.{follows, same-answers, StillTwin, still
 use Rattle.isolation.proofs.Confinement.{confined}
 
 -- ── First parts of a list ──
-device-ahead : (e : Event) (u : State) (rest part : Course) → (NoDeviceInterrupt rest → NoDeviceInterrupt part) → NoDeviceInterrupt (joined e u rest) → NoDeviceInterrupt (joined e u part)
+-- What is asked of a list holds of its first parts.
+device-ahead :
+    (e : Event) (u : State) (rest part : Course) → (NoDeviceInterrupt rest → NoDeviceInterrupt part) → NoDeviceInterrupt (joined e u rest) →
+    NoDeviceInterrupt (joined e u part)
 device-ahead unseen u rest part f h = f h
 device-ahead (answered a) u rest part f h = ahead-too part (f (no-device-later a rest h))
   where
@@ -75,6 +78,7 @@ module _ (meaning : ℕ → Prog) where
       }
 
 -- ── With equal segmentation registers ──
+-- Alike in the plain sense is alike by address, and back where the segmentation registers are equal.
 alike-twin : (s t : State) → LookAlike s t → Full s → Full t → Twin s t
 alike-twin s t a m n = record {
   protects = a .oneProtects;

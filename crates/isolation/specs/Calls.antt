@@ -19,7 +19,8 @@ use Rattle.model.specs.Tapes.{Plays}
 use Rattle.isolation.specs.Windows.{InWindow}
 
 -- ── Histories ──
--- The machines that a new one over the store m and the bus b becomes by calls, denied ones included, each with any trace.
+-- The machines that a new one over the store m and the bus b becomes by calls, denied ones included, each with any trace: called by key,
+-- initialise, examine, deposit, set, show and step; ran by run; played by play.
 pub data Reached (meaning : ℕ → Prog) (m : Store) (b : Bus) : Desk → Type 0 where
   new : Reached meaning m b (made m b)
   called : {w : Desk} (c : Act) → Reached meaning m b w → Reached meaning m b (call meaning c w .after)
@@ -40,6 +41,7 @@ pub data Continued : Type 0 where
   show : Item → Continued
   step : ℕ → Bus → Continued
 
+-- Each as a call of the console.
 abbrev pub act : Continued → Act
 act (key n) = Act.turnKey n
 act (examine a) = Act.examine a
@@ -64,6 +66,7 @@ pub data Course : Type 0 where
   quiet : List Answer → State → Course
   broken : List Answer → Record → State → Course
 
+-- The answers and the processor in the end, interrupt or not.
 abbrev pub answers : Course → List Answer
 answers (quiet xs s) = xs
 answers (broken xs r s) = xs
@@ -99,6 +102,7 @@ heldThrough (answered a) x rest = rest
 heldThrough (interrupted a r) x rest = x
 
 module _ (meaning : ℕ → Prog) where
+  -- What a call does, the machine after it, and what it is to the program: of the calls only a step is anything.
   abbrev pub did : Continued → Desk → Did
   did c w = call meaning (act c) w
 
@@ -112,6 +116,7 @@ module _ (meaning : ℕ → Prog) where
   event (show i) w = unseen
   event (step room reply) w = let d = did (step room reply) w in seen (d .answer) (d .added)
 
+  -- The course of a list from the machine w on.
   abbrev pub course : List Continued → Desk → Course
   course [] w = quiet [] (w .core)
   course (c ∷ l) w = joined (event c w) (after c w .core) (course l (after c w))
@@ -124,6 +129,7 @@ module _ (meaning : ℕ → Prog) where
   Outside segments (show i) w = Unit {0}
   Outside segments (step room reply) w = Unit {0}
 
+  -- .. and so does each deposit of a list.
   abbrev pub AllOutside : List ℕ → List Continued → Desk → Type 0
   AllOutside segments [] w = Unit {0}
   AllOutside segments (c ∷ l) w = Outside segments c w × AllOutside segments l (after c w)

@@ -33,6 +33,7 @@ abbrev pub devices : Bool → Bus
 devices b =
     λ n. record { answers = b; status = 0; offer = 0; requests = b; latest = 0; command = 0; reads = 0; writes = 0; commands = 0 }
 
+-- The machine after some calls.
 abbrev pub obeying : List Act → Desk → Desk
 obeying [] w = w
 obeying (c ∷ l) w = obeying l (call meaning c w .after)
@@ -52,6 +53,7 @@ abbrev pub mixed : List Continued
 mixed =
     step 0 (devices false) ∷ step 1 (devices false) ∷ deposit 0x190 9 ∷ key 2 ∷ deposit 0 5 ∷ examine 0 ∷ step 1 (devices false) ∷ []
 
+-- Both are reached by calls, look alike, differ in registers, store and bus, have lists as asked, and take the interrupt.
 pub record Example : Type 0 where
   pub oneReached : Reached meaning (board 5) (devices false) one
   pub otherReached : Reached meaning (board 6) (devices true) other
