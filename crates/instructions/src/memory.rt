@@ -1,0 +1,136 @@
+ghost use Rattle.processor.specs.View.{Does};
+ghost use Rattle.instructions.specs.Instructions.{sthTree, stTree, withHalfTree, withFullTree, lpswTree, svcTree, memoryTree, memoryBody};
+use bus::meaning::Bus;
+use decode::forms::{Parts, first_field, take_apart};
+use decode::operations::{Form, Function, MemoryOp};
+use fields::parts::low_half;
+use model::Trap;
+use operands::addresses::{address, load_full, next, store_full, third};
+use operands::branches::{branch_false, branch_true};
+use operands::functions::apply;
+use processor::core::Core;
+use registers::words::ProgramAddress;
+use store::meaning::Store;
+use words::sums::extended;
+
+/// Stores the low half of a register.
+fn sth<S: Store, B: Bus>(m: &mut Core<S, B>, r1: u8, a: ProgramAddress, next: ProgramAddress) -> Result<(), Trap>
+    ensures { λ r. ⌜ Does (S·Store .meaning) (B·Bus .devices) (sthTree r1 (a .at) (next .at)) (now (m .entry)) r (now (m .exit)) ⌝ }
+{
+    let value = m.reg(r1);
+    m.store(a.to_half(), low_half(value))?;
+    m.jump(next);
+    Ok(())
+}
+
+/// Stores a register.
+fn st<S: Store, B: Bus>(m: &mut Core<S, B>, r1: u8, a: ProgramAddress, next: ProgramAddress) -> Result<(), Trap>
+    ensures { λ r. ⌜ Does (S·Store .meaning) (B·Bus .devices) (stTree r1 (a .at) (next .at)) (now (m .entry)) r (now (m .exit)) ⌝ }
+{
+    let value = m.reg(r1);
+    store_full(m, a.to_full(), value)?;
+    m.jump(next);
+    Ok(())
+}
+
+/// Applies a function to a register and a halfword of the store.
+fn with_half<S: Store, B: Bus>(m: &mut Core<S, B>, function: Function, r1: u8, a: ProgramAddress, next: ProgramAddress) -> Result<(), Trap>
+    ensures { λ r. ⌜ Does (S·Store .meaning) (B·Bus .devices) (withHalfTree function r1 (a .at) (next .at)) (now (m .entry)) r (now (m .exit)) ⌝ }
+{
+    let half = m.load(a.to_half())?;
+    apply(m, function, r1, extended(half));
+    m.jump(next);
+    Ok(())
+}
+
+/// Applies a function to a register and a fullword of the store.
+fn with_full<S: Store, B: Bus>(m: &mut Core<S, B>, function: Function, r1: u8, a: ProgramAddress, next: ProgramAddress) -> Result<(), Trap>
+    ensures { λ r. ⌜ Does (S·Store .meaning) (B·Bus .devices) (withFullTree function r1 (a .at) (next .at)) (now (m .entry)) r (now (m .exit)) ⌝ }
+{
+    let y = load_full(m, a.to_full())?;
+    apply(m, function, r1, y);
+    m.jump(next);
+    Ok(())
+}
+
+/// Loads a PSW.
+fn lpsw<S: Store, B: Bus>(m: &mut Core<S, B>, a: ProgramAddress) -> Result<(), Trap>
+    ensures { λ r. ⌜ Does (S·Store .meaning) (B·Bus .devices) (lpswTree (a .at)) (now (m .entry)) r (now (m .exit)) ⌝ }
+{
+    let status = load_full(m, a.to_psw())?;
+    let location = load_full(m, a.to_psw().plus(4))?;
+    m.set_status(status)?;
+    m.jump(ProgramAddress::new(location));
+    Ok(())
+}
+
+/// Calls the supervisor.
+fn svc<S: Store, B: Bus>(m: &mut Core<S, B>, r1: u8, a: ProgramAddress, next: ProgramAddress) -> Result<(), Trap>
+    ensures { λ r. ⌜ Does (S·Store .meaning) (B·Bus .devices) (svcTree r1 (a .at) (next .at)) (now (m .entry)) r (now (m .exit)) ⌝ }
+{
+    m.jump(next);
+    Err(Trap::Supervisor(r1, a.number()))
+}
+
+/// An operation with an address.
+pub fn memory<S: Store, B: Bus>(m: &mut Core<S, B>, operation: MemoryOp, r1: u8, a: ProgramAddress, next: ProgramAddress) -> Result<(), Trap>
+    ensures { λ r. ⌜ Does (S·Store .meaning) (B·Bus .devices) (memoryTree operation r1 (a .at) (next .at)) (now (m .entry)) r (now (m .exit)) ⌝ }
+{
+    match operation {
+        MemoryOp::Sth => sth(m, r1, a, next),
+        MemoryOp::Bal => {
+            m.set_reg(r1, next.number());
+            m.jump(a);
+            Ok(())
+        }
+        MemoryOp::Btc => {
+            branch_true(m, r1, a, next);
+            Ok(())
+        }
+        MemoryOp::Bfc => {
+            branch_false(m, r1, a, next);
+            Ok(())
+        }
+        MemoryOp::WithHalf(function) => with_half(m, function, r1, a, next),
+        MemoryOp::St => st(m, r1, a, next),
+        MemoryOp::WithFull(function) => with_full(m, function, r1, a, next),
+        MemoryOp::Lpsw => lpsw(m, a),
+        MemoryOp::Svc => svc(m, r1, a, next),
+        MemoryOp::La => {
+            m.set_reg(r1, a.number());
+            m.jump(next);
+            Ok(())
+        }
+        MemoryOp::Am => Err(Trap::Illegal),
+        MemoryOp::M => Err(Trap::Illegal),
+        MemoryOp::D => Err(Trap::Illegal),
+        MemoryOp::Ahm => Err(Trap::Illegal),
+        MemoryOp::Lhl => Err(Trap::Illegal),
+        MemoryOp::Tbt => Err(Trap::Illegal),
+        MemoryOp::Sbt => Err(Trap::Illegal),
+        MemoryOp::Rbt => Err(Trap::Illegal),
+        MemoryOp::Cbt => Err(Trap::Illegal),
+        MemoryOp::Bxh => Err(Trap::Illegal),
+        MemoryOp::Bxle => Err(Trap::Illegal),
+        MemoryOp::Stm => Err(Trap::Illegal),
+        MemoryOp::Lm => Err(Trap::Illegal),
+        MemoryOp::Stb => Err(Trap::Illegal),
+        MemoryOp::Lb => Err(Trap::Illegal),
+        MemoryOp::Clb => Err(Trap::Illegal),
+        MemoryOp::Wd => Err(Trap::Illegal),
+        MemoryOp::Rd => Err(Trap::Illegal),
+        MemoryOp::Ss => Err(Trap::Illegal),
+        MemoryOp::Oc => Err(Trap::Illegal),
+        MemoryOp::Ts => Err(Trap::Illegal),
+    }
+}
+
+/// Fetches the rest of an instruction with an address, and does it.
+pub fn memory_body<S: Store, B: Bus>(m: &mut Core<S, B>, operation: MemoryOp, own: ProgramAddress, first: u16) -> Result<(), Trap>
+    ensures { λ r. ⌜ Does (S·Store .meaning) (B·Bus .devices) (memoryBody operation (own .at) first) (now (m .entry)) r (now (m .exit)) ⌝ }
+{
+    let second = m.fetch(own.plus(2))?;
+    let third = third(m, own, second)?;
+    let a = address(m, own, Parts { first, second, third, rest: &[] });
+    memory(m, operation, first_field(first), a, next(own, second))
+}

@@ -1,0 +1,102 @@
+ghost use Rattle.processor.specs.View.{Does};
+ghost use Prim.Native.Nat.{_+_};
+ghost use Rattle.model.specs.Status.{address};
+ghost use Rattle.model.specs.Effects.{jump};
+ghost use Rattle.operands.specs.Operands.{applyTree};
+ghost use Rattle.instructions.specs.Instructions.{then, balrTree, registerTree, shortTree};
+use bus::meaning::Bus;
+use decode::operations::{Function, RegisterOp, ShortOp};
+use model::Trap;
+use operands::branches::{branch_false, branch_true};
+use operands::functions::apply;
+use processor::core::Core;
+use registers::words::ProgramAddress;
+use store::meaning::Store;
+use words::sums::difference;
+
+/// Branch and link: the target is taken before the register changes.
+fn balr<S: Store, B: Bus>(m: &mut Core<S, B>, own: ProgramAddress, r1: u8, r2: u8) -> Result<(), Trap>
+    ensures { λ r. ⌜ Does (S·Store .meaning) (B·Bus .devices) (balrTree (own .at) r1 r2) (now (m .entry)) r (now (m .exit)) ⌝ }
+{
+    let target = m.reg(r2);
+    m.set_reg(r1, own.plus(2).number());
+    m.jump(ProgramAddress::new(target));
+    Ok(())
+}
+
+/// An operation between two registers.
+pub fn register<S: Store, B: Bus>(m: &mut Core<S, B>, operation: RegisterOp, own: ProgramAddress, r1: u8, r2: u8) -> Result<(), Trap>
+    ensures { λ r. ⌜ Does (S·Store .meaning) (B·Bus .devices) (registerTree operation (own .at) r1 r2) (now (m .entry)) r (now (m .exit)) ⌝ }
+{
+    match operation {
+        RegisterOp::Balr => balr(m, own, r1, r2),
+        RegisterOp::Btcr => {
+            let target = m.reg(r2);
+            branch_true(m, r1, ProgramAddress::new(target), own.plus(2));
+            Ok(())
+        }
+        RegisterOp::Bfcr => {
+            let target = m.reg(r2);
+            branch_false(m, r1, ProgramAddress::new(target), own.plus(2));
+            Ok(())
+        }
+        RegisterOp::WithRegister(function) => {
+            let y = m.reg(r2);
+            apply(m, function, r1, y);
+            m.jump(own.plus(2));
+            Ok(())
+        }
+        RegisterOp::Lpswr => Err(Trap::Illegal),
+        RegisterOp::Mr => Err(Trap::Illegal),
+        RegisterOp::Dr => Err(Trap::Illegal),
+        RegisterOp::Exhr => Err(Trap::Illegal),
+        RegisterOp::Stbr => Err(Trap::Illegal),
+        RegisterOp::Lbr => Err(Trap::Illegal),
+        RegisterOp::Exbr => Err(Trap::Illegal),
+        RegisterOp::Epsr => Err(Trap::Illegal),
+        RegisterOp::Wdr => Err(Trap::Illegal),
+        RegisterOp::Rdr => Err(Trap::Illegal),
+        RegisterOp::Ssr => Err(Trap::Illegal),
+        RegisterOp::Ocr => Err(Trap::Illegal),
+    }
+}
+
+/// Applies a function to a register and a number, and goes on.
+fn applied<S: Store, B: Bus>(m: &mut Core<S, B>, function: Function, own: ProgramAddress, r1: u8, y: u32) -> Result<(), Trap>
+    ensures { λ r. ⌜ Does (S·Store .meaning) (B·Bus .devices) (then (applyTree function r1 y) (jump (address (own .at + 2)))) (now (m .entry)) r (now (m .exit)) ⌝ }
+{
+    apply(m, function, r1, y);
+    m.jump(own.plus(2));
+    Ok(())
+}
+
+/// An operation with a number of four bits.
+pub fn short<S: Store, B: Bus>(m: &mut Core<S, B>, operation: ShortOp, own: ProgramAddress, r1: u8, n: u8) -> Result<(), Trap>
+    ensures { λ r. ⌜ Does (S·Store .meaning) (B·Bus .devices) (shortTree operation (own .at) r1 n) (now (m .entry)) r (now (m .exit)) ⌝ }
+{
+    let distance = 2 * n as u16;
+    match operation {
+        ShortOp::Srls => Err(Trap::Illegal),
+        ShortOp::Slls => Err(Trap::Illegal),
+        ShortOp::Btbs => {
+            branch_true(m, r1, own.minus(distance), own.plus(2));
+            Ok(())
+        }
+        ShortOp::Btfs => {
+            branch_true(m, r1, own.plus(distance), own.plus(2));
+            Ok(())
+        }
+        ShortOp::Bfbs => {
+            branch_false(m, r1, own.minus(distance), own.plus(2));
+            Ok(())
+        }
+        ShortOp::Bffs => {
+            branch_false(m, r1, own.plus(distance), own.plus(2));
+            Ok(())
+        }
+        ShortOp::Lis => applied(m, Function::Load, own, r1, n as u32),
+        ShortOp::Lcs => applied(m, Function::Load, own, r1, difference(0, n as u32)),
+        ShortOp::Ais => applied(m, Function::Add, own, r1, n as u32),
+        ShortOp::Sis => applied(m, Function::Subtract, own, r1, n as u32),
+    }
+}
