@@ -1,6 +1,5 @@
 use mathlib.Core.Path.{_≡_}
 use Prim.Native.Nat.{ℕ, _^_, _<_}
-use Rattle.words.specs.Sums.{marks}
 use Rattle.shifts.specs.Shifts.{rotateLeft, rotateRight, shiftLeft, shiftLeftCode}
 
 -- A rotate by any count, and back, gives the number again.

@@ -1,7 +1,7 @@
 //! Shifts and rotates of a fullword, and the condition codes that they set. A count is taken modulo 32.
 
 ghost use mathlib.Core.Path.{_≡_};
-ghost use Prim.Native.Nat.{ℕ, _+_, _*_, _%_, _<_, _≤_};
+ghost use Prim.Native.Nat.{_+_, _*_, _%_, _<_, _≤_};
 ghost use Rattle.words.specs.Sums.{marks};
 ghost use Rattle.shifts.specs.Shifts.{shiftRight, shiftLeft, shiftRightArithmetic, shiftLeftArithmetic, rotateRight, rotateLeft, outRight, outLeft, shiftRightCode, shiftLeftCode, shiftRightArithmeticCode, shiftLeftArithmeticCode, rotateRightCode, rotateLeftCode};
 ghost use Rattle.shifts.specs.Laws.{Rotates-back, Shift-example};

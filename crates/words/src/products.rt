@@ -1,8 +1,8 @@
 //! Multiplication and division.
 
 ghost use mathlib.Core.Path.{_≡_};
-ghost use Prim.Native.Nat.{ℕ, _+_, _*_, _/_, _%_, _^_, _<_};
-ghost use lib.IntN.{ℤ, _*ℤ_};
+ghost use Prim.Native.Nat.{_+_, _*_, _/_, _%_, _<_};
+ghost use lib.IntN.{_*ℤ_};
 ghost use lib.Signed.{quotZ, remZ};
 ghost use mir.Val.{ofZ, SFits};
 ghost use mir.Syntax.{w32, w64};

@@ -1,8 +1,8 @@
 //! Sums, differences, comparisons.
 
 ghost use mathlib.Core.Path.{_≡_};
-ghost use Prim.Native.Nat.{ℕ, _+_, _^_, _<_};
-ghost use lib.Dec.{leb, ltb};
+ghost use Prim.Native.Nat.{_+_, _^_, _<_};
+ghost use lib.Dec.{leb};
 ghost use lib.Signed.{ltZ};
 ghost use lib.IntN.{_+ℤ_, _-ℤ_};
 ghost use Rattle.words.specs.Sums.{full, flag, marks, outOfRange, sum, sumCode, difference, differenceCode, compareCode, compareLogicalCode, extended};
