@@ -3,7 +3,7 @@
 mod common;
 
 use common::*;
-use reference::codes::{self, Form, TABLE};
+use reference::codes::{self, Code, Form, TABLE};
 use reference::Answer;
 
 /// The address that LA delivers for an instruction whose code is left out.
@@ -155,22 +155,20 @@ fn every_other_code_is_illegal() {
 
 #[test]
 fn the_form_decides_the_length() {
-    for code in TABLE {
+    for code in TABLE.iter().filter(|code| !goes_elsewhere(code)) {
         let mut bench = Bench::new();
         bench.instruct(&[u16::from(code.number) << 8, 0x4000, 0x1000]);
-        if bench.step() != Answer::Done || bench.machine.location < START {
-            continue;
-        }
+        bench.done();
         let length = match code.form {
             Form::Rr | Form::Sf => 2,
             Form::Ri1 => 4,
             Form::Rx | Form::Ri2 => 6,
         };
-        let branch = code.name.starts_with('B');
-        assert!(
-            branch || bench.machine.location == START + length,
-            "{}",
-            code.name
-        );
+        assert_eq!(bench.machine.location, START + length, "{}", code.name);
     }
+}
+
+/// Branches, loads of the PSW and supervisor calls.
+fn goes_elsewhere(code: &Code) -> bool {
+    code.name.starts_with('B') || ["LPSWR", "LPSW", "SVC"].contains(&code.name)
 }

@@ -1,1 +1,2 @@
 mod Locations
+mod RunCalls

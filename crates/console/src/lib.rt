@@ -2,5 +2,7 @@
 pub mod answers;
 pub mod key;
 pub mod machine;
-pub mod registers_at;
-pub mod store_at;
+mod registers_at;
+mod runs;
+mod store_at;
+mod tapes;

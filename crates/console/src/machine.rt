@@ -1,19 +1,19 @@
 ghost use mathlib.Core.Path.{_≡_};
-ghost use lib.ListN.{length};
 ghost use denote.Ref.{name};
-ghost use Rattle.queue.specs.Rows.{queued, capacity};
+ghost use Rattle.queue.specs.Rows.{capacity};
 ghost use Rattle.model.specs.Console.{made as madeDesk, turnKey, initialise, examine, deposit, setItem, showItem};
 ghost use Rattle.model.specs.Runs.{StepsSplit};
 ghost use Rattle.instructions.specs.Instructions.{instruction};
 ghost use Rattle.console.specs.View.{deskOf, doneBy, shownBy, steppedBy, ranBy, Says, Steps, Runs};
 use crate::key::Key;
 use crate::registers_at::{check_item, item_in, set_item};
+use crate::runs::{check_room, run_at};
 use crate::store_at::{deposit_at, place_at};
 use bus::meaning::Bus;
 use model::{Denial, Item, Record, StepAnswer};
 use processor::core::Core;
 use queue::Queue;
-use steps::run::{RunAnswer, run};
+use steps::run::RunAnswer;
 use steps::step::step;
 use store::meaning::Store;
 
@@ -94,9 +94,19 @@ impl<S: Store, B: Bus> Machine<S, B> {
         ensures room { λ _. ⌜ capacity (now (trace .exit)) ≡ capacity (now (trace .entry)) ⌝ }
     {
         self.key.unless_off()?;
-        if trace.is_full() {
-            return Err(Denial::TraceFull);
-        }
+        check_room(trace)?;
         Ok(step(&mut self.core, trace))
+    }
+
+    /// Steps until one waits, the trace is full or the count is reached.
+    pub fn run(&mut self, count: u32, trace: &mut Queue<'_, Record>) -> Result<RunAnswer, Denial>
+        ensures says { λ r. ⌜ Runs (S·Store .meaning) (B·Bus .devices) count (now (self .entry)) (now (trace .entry)) (ranBy r) (now (self .exit)) (now (trace .exit)) ⌝ }
+        ensures splits { λ _. ⌜ StepsSplit instruction ⌝ }
+        ensures same { λ _. ⌜ name (now (trace .exit) .slots) ≡ name (now (trace .entry) .slots) ⌝ }
+        ensures room { λ _. ⌜ capacity (now (trace .exit)) ≡ capacity (now (trace .entry)) ⌝ }
+    {
+        self.key.unless_off()?;
+        let answer = run_at(&mut self.core, count, trace)?;
+        Ok(answer)
     }
 }

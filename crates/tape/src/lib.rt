@@ -1,0 +1,3 @@
+//! The tape: its bytes read as commands.
+pub mod commands;
+pub mod orders;
