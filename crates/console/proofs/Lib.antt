@@ -1,2 +1,3 @@
 mod Locations
 mod RunCalls
+mod TapeCalls

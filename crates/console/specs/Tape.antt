@@ -1,8 +1,10 @@
 -- The tape's code as the definitions see it.
 use mathlib.Core.Path.{_≡_}
 use mathlib.Core.Bool.{true}
-use mathlib.Core.List.{List}
-use Prim.Native.Nat.{ℕ, _^_, _<_}
+use mathlib.Core.List.{List, _∷_}
+use Prim.Native.Nat.{ℕ, _+_, _-_, _^_, _<_}
+use lib.ListN.{length}
+use Rattle.std.specs.declared.option.Option.the-variants.{Some}
 use Rattle.std.specs.declared.result.Result.{Result}
 use Rattle.std.specs.declared.result.Result.the-variants.{Ok, Err}
 use Rattle.queue.specs.declared.Queue.{Queue}
@@ -13,7 +15,7 @@ use Rattle.model.specs.Stores.{Store}
 use Rattle.model.specs.Buses.{Bus}
 use Rattle.model.specs.Answers.{number, on, Answer, denied, played, faulted, accepted}
 use Rattle.model.specs.Console.{Desk}
-use Rattle.model.specs.Tapes.{spell, Obeys, Playing, Plays as PlaysBy}
+use Rattle.model.specs.Tapes.{spell, spellFrom, Obeys, Playing, Plays as PlaysBy}
 use Rattle.processor.specs.declared.core.Core.{Core}
 use Rattle.processor.specs.View.{stateOf}
 use Rattle.instructions.specs.Instructions.{instruction}
@@ -21,6 +23,7 @@ use Rattle.console.specs.declared.machine.Machine.{Machine}
 use Rattle.tape.specs.declared.orders.Order.{Order as TapeOrder}
 use Rattle.tape.specs.declared.orders.Order.the-variants.{Point, Deposit, Set, Go}
 use Rattle.tape.specs.declared.orders.TapeFault.{TapeFault}
+use Rattle.tape.specs.declared.faults.Located.{Located}
 use Rattle.tape.specs.Commands.{orderOf}
 use Rattle.console.specs.View.{deskOf}
 
@@ -54,3 +57,18 @@ Low (Deposit a v) (Err d) = Unit {0}
 Low Point r = Unit {0}
 Low (Set i v) r = Unit {0}
 Low (Go n) r = Unit {0}
+
+module _ {S B : Type 0} (meaning : S → Store) (devices : B → Bus) where
+  -- The command at a letter was obeyed, n of them before it: as the tape goes on from the bytes rest, so it goes on from the letter.
+  abbrev pub Advances : ℕ → List ℕ → ℕ → ℕ → Core S B → Queue Record → List ℕ → ℕ → Core S B → Queue Record → Type 0
+  Advances letter bytes place a m t rest next n u =
+      (k : ℕ) (x : Answer) (v : Desk) (p : List Record) →
+      Playing instruction (capacity t) (spellFrom rest 0 (place + 1 + (length bytes - length rest)) next) (k + 1) (onDesk meaning devices n) (queued u) x v p →
+      Playing instruction (capacity t) (spellFrom (letter ∷ bytes) 0 place a) k (onDesk meaning devices m) (queued t) x v p
+
+  -- The tape stopped at a letter.
+  abbrev pub StopsAt : ℕ → List ℕ → ℕ → ℕ → Core S B → Queue Record → Located → Core S B → Queue Record → Type 0
+  StopsAt letter bytes place a m t l n u =
+      (k : ℕ) →
+      Playing instruction (capacity t) (spellFrom (letter ∷ bytes) 0 place a) k (onDesk meaning devices m) (queued t)
+        (faulted (number (l .denial)) (l .place) (Some (l .letter))) (onDesk meaning devices n) (queued u)

@@ -1,7 +1,7 @@
 -- The commands of a tape, read by the code.
 use mathlib.Core.Path.{_≡_}
 use mathlib.Core.List.{List}
-use Prim.Native.Nat.{ℕ, _≤_}
+use Prim.Native.Nat.{ℕ, _+_, _^_, _≤_}
 use lib.ListN.{length, drop}
 use Rattle.model.specs.Console.{deposit, setItem}
 use Rattle.model.specs.Tapes.{Order, point, obey, go, known, commandOf, Spelling, broken, spelled}
@@ -25,3 +25,10 @@ pub record Whole (letter a : ℕ) (bytes : List ℕ) (o : Order) (next : ℕ) (r
 -- A letter that is no whole command, with the number of that denial.
 abbrev pub Broken : ℕ → ℕ → List ℕ → ℕ → Type 0
 Broken letter a bytes n = (place : ℕ) (more : ℕ → ℕ → Spelling) → spelled (commandOf letter a bytes) letter place bytes more ≡ broken n place letter
+
+-- The next address: two behind a deposit's own, and else of 24 bits.
+abbrev pub NextTo : TapeOrder → ℕ → Type 0
+NextTo Point n = n ≤ 2 ^ 24
+NextTo (Deposit a v) n = n ≡ a + 2
+NextTo (Set i v) n = n ≤ 2 ^ 24
+NextTo (Go k) n = n ≤ 2 ^ 24

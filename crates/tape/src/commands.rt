@@ -1,11 +1,11 @@
 ghost use mathlib.Core.Path.{_≡_};
-ghost use Prim.Native.Nat.{_+_, _^_, _<_, _≤_};
+ghost use Prim.Native.Nat.{_^_, _<_, _≤_};
 ghost use lib.ListN.{length, getD, drop};
 ghost use Rattle.std.specs.Options.{Cases as BySome};
 ghost use Rattle.std.specs.Results.{Cases};
 ghost use Rattle.model.specs.Answers.{number};
 ghost use Rattle.model.specs.Tapes.{two as twoOf, three as threeOf, four as fourOf};
-ghost use Rattle.tape.specs.Commands.{orderOf, Whole, Broken};
+ghost use Rattle.tape.specs.Commands.{orderOf, Whole, Broken, NextTo};
 use crate::orders::Order;
 use model::{Denial, Item};
 
@@ -70,7 +70,7 @@ pub struct Command<'t> {
 
 /// Reads the command of a letter; `address` is that of the next deposit, at most X'1000000'.
 pub fn read_command<'t>(letter: u8, address: u32, bytes: &'t [u8]) -> Result<Command<'t>, Denial>
-    ensures { λ r. ⌜ (address ≤ 2 ^ 24 → Cases r (λ c. Whole letter address (now (bytes .entry)) (orderOf (c .order)) (c .next) (now (c .rest)) × (c .next ≤ 2 ^ 24 + 2)) (λ d. Broken letter address (now (bytes .entry)) (number d))) ⌝ }
+    ensures { λ r. ⌜ (address ≤ 2 ^ 24 → Cases r (λ c. Whole letter address (now (bytes .entry)) (orderOf (c .order)) (c .next) (now (c .rest)) × NextTo (c .order) (c .next)) (λ d. Broken letter address (now (bytes .entry)) (number d))) ⌝ }
 {
     match letter as char {
         'A' => {

@@ -1,3 +1,4 @@
 //! The tape: its bytes read as commands.
 pub mod commands;
+pub mod faults;
 pub mod orders;

@@ -1,0 +1,94 @@
+-- A tape, command by command.
+use mathlib.Core.Path.{_≡_, refl, sym, _∙_, ap, subst}
+use mathlib.Core.Bool.{Bool, true, false, cond}
+use mathlib.Core.List.{List, [], _∷_}
+use Prim.Native.Nat.{ℕ, zero, suc, _+_, _-_, _^_, _≤_, _<_}
+use native.Mathlib.Omega.{arith}
+use native.Mathlib.Nat.{add-assoc, add-zero}
+use native.Mathlib.Numerals.{add-one}
+use lib.Dec.{ltb}
+use lib.ListN.{length, drop, length-drop}
+use borrow.Author.Needs.{needs}
+use Rattle.std.specs.declared.option.Option.the-variants.{Some}
+use Rattle.model.specs.declared.Record.{Record}
+use Rattle.model.specs.Effects.{Prog}
+use Rattle.model.specs.Answers.{Answer, denied, faulted, accepted}
+use Rattle.model.specs.Console.{Desk}
+use Rattle.model.specs.Tapes.{Order, Command, known, commandOf, Spelling, broken, order, spelled, spellFrom, Obeys, Playing, breaks, halts, goesOn}
+use Rattle.std.specs.declared.result.Result.the-variants.{Ok}
+use Rattle.tape.specs.declared.orders.Order.{Order as TapeOrder}
+use Rattle.tape.specs.declared.orders.Order.the-variants.{Point, Deposit, Set, Go}
+use Rattle.tape.specs.Commands.{Broken, NextTo}
+use Rattle.console.specs.Tape.{Low}
+
+past : (b : ℕ) (bytes : List ℕ) (size place a : ℕ) → spellFrom (b ∷ bytes) (suc size) place a ≡ spellFrom bytes size (place + 1) a
+unfolding spellFrom
+past b bytes size place a = refl
+
+-- The bytes of an operand are passed over.
+skip : (bytes : List ℕ) (size place a : ℕ) → size ≤ length bytes → spellFrom bytes size place a ≡ spellFrom (drop size bytes) 0 (place + size) a
+skip bytes zero place a h = ap (λ (k : ℕ). spellFrom bytes 0 k a) (sym (add-zero place))
+skip [] (suc size) place a h = absurd (omega arith)
+skip (b ∷ bytes) (suc size) place a h =
+    let e : (place + 1) + size ≡ place + suc size = omega arith in
+    past b bytes size place a ∙ (skip bytes size (place + 1) a (omega arith) ∙ ap (λ (k : ℕ). spellFrom (drop size bytes) 0 k a) e)
+
+here : (b : ℕ) (bytes : List ℕ) (place a : ℕ) → spellFrom (b ∷ bytes) 0 place a ≡ spelled (commandOf b a bytes) b place bytes (λ size next. spellFrom bytes size (place + 1) next)
+unfolding spellFrom
+here b bytes place a = refl
+
+-- A whole command is an order, before what the bytes behind it spell.
+pub spell-whole :
+    (letter a size next place : ℕ) (bytes : List ℕ) (o : Order) →
+    commandOf letter a bytes ≡ known size o next →
+    size ≤ length bytes →
+    spellFrom (letter ∷ bytes) 0 place a ≡ order o letter place (spellFrom (drop size bytes) 0 (place + 1 + size) next)
+spell-whole letter a size next place bytes o e h =
+    let more : ℕ → ℕ → Spelling = λ s n. spellFrom bytes s (place + 1) n in
+    let enough : ltb (length bytes) size ≡ false = search needs in
+    here letter bytes place a ∙
+    (ap (λ (c : Command). spelled c letter place bytes more) e ∙
+    (ap (λ (b : Bool). cond b (broken 6 place letter) (order o letter place (more size next))) enough ∙
+    ap (λ (s : Spelling). order o letter place s) (skip bytes size (place + 1) next h)))
+
+pub spell-broken : (letter a n place : ℕ) (bytes : List ℕ) → Broken letter a bytes n → spellFrom (letter ∷ bytes) 0 place a ≡ broken n place letter
+spell-broken letter a n place bytes h = here letter bytes place a ∙ h place (λ s m. spellFrom bytes s (place + 1) m)
+
+module _ (meaning : ℕ → Prog) (cap : ℕ) where
+  -- A letter that begins no whole command stops the tape there.
+  pub broken-there :
+      (letter a d place n : ℕ) (bytes : List ℕ) (w : Desk) (q : List Record) →
+      Broken letter a bytes d → Playing meaning cap (spellFrom (letter ∷ bytes) 0 place a) n w q (faulted d place (Some letter)) w q
+  broken-there letter a d place n bytes w q h =
+      subst (λ (s : Spelling). Playing meaning cap s n w q (faulted d place (Some letter)) w q) (sym (spell-broken letter a d place bytes h)) breaks
+
+  -- So does a command that is denied.
+  pub denied-there :
+      (letter a size next place n d : ℕ) (bytes : List ℕ) (o : Order) (w v : Desk) (q p : List Record) →
+      commandOf letter a bytes ≡ known size o next → size ≤ length bytes → Obeys meaning cap o w q (denied d) v p →
+      Playing meaning cap (spellFrom (letter ∷ bytes) 0 place a) n w q (faulted d place (Some letter)) v p
+  denied-there letter a size next place n d bytes o w v q p e h ob =
+      subst (λ (s : Spelling). Playing meaning cap s n w q (faulted d place (Some letter)) v p) (sym (spell-whole letter a size next place bytes o e h)) (halts ob)
+
+  -- After a command that is obeyed, the bytes behind it are played.
+  pub obeyed-there :
+      (letter a size next place n : ℕ) (bytes rest : List ℕ) (o : Order) (w u v : Desk) (q r p : List Record) (b x : Answer) (at : ℕ) →
+      commandOf letter a bytes ≡ known size o next → size ≤ length bytes → rest ≡ drop size bytes → at ≡ place + 1 + size →
+      Obeys meaning cap o w q b u r → accepted b ≡ true →
+      Playing meaning cap (spellFrom rest 0 at next) (n + 1) u r x v p →
+      Playing meaning cap (spellFrom (letter ∷ bytes) 0 place a) n w q x v p
+  obeyed-there letter a size next place n bytes rest o w u v q r p b x at e h er ea ob acc more =
+      let there : spellFrom rest 0 at next ≡ spellFrom (drop size bytes) 0 (place + 1 + size) next =
+          ap (λ (l : List ℕ). spellFrom l 0 at next) er ∙ ap (λ (k : ℕ). spellFrom (drop size bytes) 0 k next) ea in
+      subst (λ (s : Spelling). Playing meaning cap s n w q x v p) (sym (spell-whole letter a size next place bytes o e h))
+      (goesOn b ob acc (subst (λ (s : Spelling). Playing meaning cap s (n + 1) u r x v p) there more))
+
+-- After an accepted command the next address has at most 24 bits and one.
+pub next-low : (o : TapeOrder) (n : ℕ) (u : Unit {0}) → NextTo o n → Low o (Ok u) → n ≤ 2 ^ 24
+next-low Point n u h l = h
+next-low (Deposit a v) n u h l = omega arith
+next-low (Set i v) n u h l = h
+next-low (Go k) n u h l = h
+
+pub gone : (bytes rest : List ℕ) (size place : ℕ) → size ≤ length bytes → rest ≡ drop size bytes → place + 1 + (length bytes - length rest) ≡ place + 1 + size
+gone bytes rest size place h e = omega (arith, ap length e, length-drop size bytes)
