@@ -19,7 +19,7 @@ fn address(own: u32, first: u16, rest: &[u16], registers: &[(usize, u32)]) -> u3
     bench.status(RELOCATION);
     let halfwords = [&[0xE610 | first & 0xF], rest].concat();
     for (index, halfword) in halfwords.into_iter().enumerate() {
-        bench.put(own + 2 * index as u32 & 0xFFFF, &[halfword]);
+        bench.put((own + 2 * index as u32) & 0xFFFF, &[halfword]);
     }
     bench.machine.location = own;
     bench.done();

@@ -7,14 +7,15 @@ use native.Mathlib.Omega.{arith}
 use native.Mathlib.Nat.{add-assoc, add-zero}
 use native.Mathlib.Numerals.{add-one}
 use lib.Dec.{ltb}
-use lib.ListN.{length, drop, length-drop}
+use lib.ListN.{length, getD, take, drop, length-drop}
 use borrow.Author.Needs.{needs}
+use Rattle.std.proofs.shelf.Lists.{drop-more, take-rest, nil-from-length}
 use Rattle.std.specs.declared.option.Option.the-variants.{Some}
 use Rattle.model.specs.declared.Record.{Record}
 use Rattle.model.specs.Effects.{Prog}
-use Rattle.model.specs.Answers.{Answer, denied, faulted, accepted}
+use Rattle.model.specs.Answers.{Answer, denied, played, faulted, accepted}
 use Rattle.model.specs.Console.{Desk}
-use Rattle.model.specs.Tapes.{Order, Command, known, commandOf, Spelling, broken, order, spelled, spellFrom, Obeys, Playing, breaks, halts, goesOn}
+use Rattle.model.specs.Tapes.{Order, Command, known, commandOf, Spelling, end, broken, order, spelled, spellFrom, Obeys, Playing, ends, breaks, halts, goesOn}
 use Rattle.std.specs.declared.result.Result.the-variants.{Ok}
 use Rattle.tape.specs.declared.orders.Order.{Order as TapeOrder}
 use Rattle.tape.specs.declared.orders.Order.the-variants.{Point, Deposit, Set, Go}
@@ -92,3 +93,42 @@ next-low (Go k) n u h l = h
 
 pub gone : (bytes rest : List ℕ) (size place : ℕ) → size ≤ length bytes → rest ≡ drop size bytes → place + 1 + (length bytes - length rest) ≡ place + 1 + size
 gone bytes rest size place h e = omega (arith, ap length e, length-drop size bytes)
+
+-- A list is its first element and the others.
+pub front : (xs : List ℕ) → 1 ≤ length xs → getD xs 0 0 ∷ take (length xs - 1) (drop 1 xs) ≡ xs
+front xs h = ap (λ (l : List ℕ). getD xs 0 0 ∷ l) (take-rest xs 1) ∙ sym (drop-more xs 0 0 h)
+
+over : (place a : ℕ) → spellFrom [] 0 place a ≡ end
+unfolding spellFrom
+over place a = refl
+
+-- A tape from its beginning, by how it goes on from the bytes xs.
+module _ (meaning : ℕ → Prog) (cap : ℕ) (first : Spelling) (start : Desk) (line : List Record) (xs : List ℕ) (place a n : ℕ) (w : Desk) (q : List Record) where
+  pub to-the-end :
+      ((x : Answer) (v : Desk) (p : List Record) → Playing meaning cap (spellFrom xs 0 place a) n w q x v p → Playing meaning cap first 0 start line x v p) →
+      length xs < 1 → Playing meaning cap first 0 start line (played n) w q
+  to-the-end from h =
+      let e : spellFrom xs 0 place a ≡ end = ap (λ (l : List ℕ). spellFrom l 0 place a) (nil-from-length xs (omega arith)) ∙ over place a in
+      from (played n) w q (subst (λ (s : Spelling). Playing meaning cap s n w q (played n) w q) (sym e) ends)
+
+  pub to-a-stop :
+      (cap′ letter : ℕ) (bytes : List ℕ) (y : Answer) (v : Desk) (p : List Record) →
+      ((x : Answer) (u : Desk) (o : List Record) → Playing meaning cap (spellFrom xs 0 place a) n w q x u o → Playing meaning cap first 0 start line x u o) →
+      cap′ ≡ cap → letter ∷ bytes ≡ xs →
+      ((k : ℕ) → Playing meaning cap′ (spellFrom (letter ∷ bytes) 0 place a) k w q y v p) → Playing meaning cap first 0 start line y v p
+  to-a-stop cap′ letter bytes y v p from ec ex stop =
+      from y v p
+      (subst (λ (c : ℕ). Playing meaning c (spellFrom xs 0 place a) n w q y v p) ec
+      (subst (λ (l : List ℕ). Playing meaning cap′ (spellFrom l 0 place a) n w q y v p) ex (stop n)))
+
+  pub to-the-next :
+      (cap′ letter next at at′ : ℕ) (bytes rest : List ℕ) (u : Desk) (r : List Record) →
+      ((x : Answer) (v : Desk) (p : List Record) → Playing meaning cap (spellFrom xs 0 place a) n w q x v p → Playing meaning cap first 0 start line x v p) →
+      cap′ ≡ cap → letter ∷ bytes ≡ xs → at ≡ at′ →
+      ((k : ℕ) (x : Answer) (v : Desk) (p : List Record) → Playing meaning cap′ (spellFrom rest 0 at′ next) (k + 1) u r x v p → Playing meaning cap′ (spellFrom (letter ∷ bytes) 0 place a) k w q x v p) →
+      (x : Answer) (v : Desk) (p : List Record) → Playing meaning cap (spellFrom rest 0 at next) (n + 1) u r x v p → Playing meaning cap first 0 start line x v p
+  to-the-next cap′ letter next at at′ bytes rest u r from ec ex ea one x v p more =
+      let more′ = subst (λ (c : ℕ). Playing meaning c (spellFrom rest 0 at′ next) (n + 1) u r x v p) (sym ec) (subst (λ (k : ℕ). Playing meaning cap (spellFrom rest 0 k next) (n + 1) u r x v p) ea more) in
+      from x v p
+      (subst (λ (c : ℕ). Playing meaning c (spellFrom xs 0 place a) n w q x v p) ec
+      (subst (λ (l : List ℕ). Playing meaning cap′ (spellFrom l 0 place a) n w q x v p) ex (one n x v p more′)))

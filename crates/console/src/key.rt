@@ -1,4 +1,5 @@
 ghost use mathlib.Core.Path.{_≡_};
+ghost use denote.Ref.{name};
 ghost use lib.Dec.{eqb};
 ghost use Rattle.std.specs.Vec.{made};
 ghost use Rattle.model.specs.Answers.{off, on, lock};
@@ -47,5 +48,33 @@ impl Key {
             2 => Err(Denial::KeyLocked),
             _ => Ok(()),
         }
+    }
+}
+
+/// Holds the key ON; when it is dropped, the key is back where it was.
+pub(crate) struct KeyGuard<'a> {
+    key: &'a mut Key,
+    before: u8,
+}
+
+impl<'a> KeyGuard<'a> {
+    /// Turns the key ON.
+    pub(crate) fn turn_on(key: &'a mut Key) -> KeyGuard<'a>
+        ensures before { λ r. ⌜ r .before ≡ now (key .entry) .position ⌝ }
+        ensures on { λ r. ⌜ now (r .key) .position ≡ on ⌝ }
+        ensures same { λ r. ⌜ name (r .key) ≡ name (key .entry) ⌝ }
+    {
+        let before = key.position;
+        key.position = 1;
+        KeyGuard { key, before }
+    }
+}
+
+impl Drop for KeyGuard<'_> {
+    fn drop(self)
+        ensures { λ _. ⌜ now (self .exit .0) .position ≡ self .entry .before ⌝ }
+    {
+        self.key.position = self.before;
+        let KeyGuard { key: _, before: _ } = self;
     }
 }

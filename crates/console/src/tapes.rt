@@ -6,6 +6,7 @@ ghost use Rattle.std.specs.Results.{Cases};
 ghost use Rattle.std.specs.Vec.{made};
 ghost use Rattle.queue.specs.Rows.{capacity};
 ghost use Rattle.console.specs.Tape.{Obeyed, Low, Played, Advances, StopsAt};
+use crate::key::{Key, KeyGuard};
 use crate::registers_at::set_item;
 use crate::runs::run_at;
 use crate::store_at::deposit_at;
@@ -15,8 +16,8 @@ use processor::core::Core;
 use queue::Queue;
 use store::meaning::Store;
 use tape::commands::{Command, read_command};
-use tape::faults::Located;
-use tape::orders::Order;
+use tape::faults::{Located, TapeFaultFromLocated};
+use tape::orders::{Order, TapeFault};
 
 /// Obeys one command; with the key ON no call is denied for the key.
 fn obey<S: Store, B: Bus>(core: &mut Core<S, B>, order: Order, trace: &mut Queue<'_, Record>) -> Result<(), Denial>
@@ -59,4 +60,36 @@ fn obey_next<'t, S: Store, B: Bus>(core: &mut Core<S, B>, letter: u8, bytes: &'t
         },
         Err(denial) => Err(Located { denial, place, letter }),
     }
+}
+
+/// Obeys the commands of a tape, up to the first that is denied.
+fn obey_all<S: Store, B: Bus>(core: &mut Core<S, B>, tape: &[u8], trace: &mut Queue<'_, Record>) -> Result<usize, TapeFault>
+    ensures played { λ r. ⌜ Played (S·Store .meaning) (B·Bus .devices) (now (tape .entry)) (now (core .entry)) (now (trace .entry)) r (now (core .exit)) (now (trace .exit)) ⌝ }
+    ensures same { λ _. ⌜ name (now (trace .exit) .slots) ≡ name (now (trace .entry) .slots) ⌝ }
+    ensures room { λ _. ⌜ capacity (now (trace .exit)) ≡ capacity (now (trace .entry)) ⌝ }
+{
+    let mut rest = tape;
+    let mut place = 0;
+    let mut address = 0;
+    let mut obeyed = 0;
+    while let [letter, bytes @ ..] = rest {
+        let command = obey_next(core, *letter, bytes, place, address, trace)?;
+        place += 1 + (bytes.len() - command.rest.len());
+        address = command.next;
+        obeyed += 1;
+        rest = command.rest;
+    }
+    Ok(obeyed)
+}
+
+/// Plays a tape with the key ON; when the guard is dropped, the key is back where it was.
+pub(crate) fn play_on<S: Store, B: Bus>(key: &mut Key, core: &mut Core<S, B>, tape: &[u8], trace: &mut Queue<'_, Record>) -> Result<usize, TapeFault>
+    ensures back { λ _. ⌜ now (key .exit) ≡ now (key .entry) ⌝ }
+    ensures played { λ r. ⌜ Played (S·Store .meaning) (B·Bus .devices) (now (tape .entry)) (now (core .entry)) (now (trace .entry)) r (now (core .exit)) (now (trace .exit)) ⌝ }
+    ensures same { λ _. ⌜ name (now (trace .exit) .slots) ≡ name (now (trace .entry) .slots) ⌝ }
+    ensures room { λ _. ⌜ capacity (now (trace .exit)) ≡ capacity (now (trace .entry)) ⌝ }
+{
+    let _guard = KeyGuard::turn_on(key);
+    let obeyed = obey_all(core, tape, trace)?;
+    Ok(obeyed)
 }

@@ -41,7 +41,7 @@ impl Chance {
 
     /// A number below the limit, which is above 0.
     pub fn below(&mut self, limit: u32) -> u32 {
-        (u64::from(self.bits()) * u64::from(limit) >> 32) as u32
+        ((u64::from(self.bits()) * u64::from(limit)) >> 32) as u32
     }
 
     /// A number from the first to the last, both included.

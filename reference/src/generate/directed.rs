@@ -125,9 +125,9 @@ impl Scene {
     }
 
     fn registers(self, registers: &[(u8, u32)]) -> Scene {
-        registers
-            .iter()
-            .fold(self, |scene, &(number, value)| scene.register(number, value))
+        registers.iter().fold(self, |scene, &(number, value)| {
+            scene.register(number, value)
+        })
     }
 
     /// Gives every register of the selected set a value of its own.

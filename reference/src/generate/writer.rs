@@ -63,7 +63,9 @@ impl Writer {
 
     pub fn halfwords(&mut self, address: u32, halfwords: &[u16]) {
         self.address(address);
-        halfwords.iter().for_each(|&halfword| self.deposit(halfword));
+        halfwords
+            .iter()
+            .for_each(|&halfword| self.deposit(halfword));
     }
 
     pub fn fullwords(&mut self, address: u32, fullwords: &[u32]) {
@@ -153,10 +155,7 @@ pub fn reach(way: Way, code: u8, r1: u8, own: u32, address: u32) -> Option<Reach
             (rx2(code, r1, 0, distance), vec![])
         }
         Way::Direct | Way::Relative => return None,
-        Way::DirectIndexed => (
-            rx1(code, r1, INDEX, 0x3FFC),
-            vec![(INDEX, rest(0x3FFC))],
-        ),
+        Way::DirectIndexed => (rx1(code, r1, INDEX, 0x3FFC), vec![(INDEX, rest(0x3FFC))]),
         Way::RelativeIndexed => (
             rx2(code, r1, INDEX, -0x1234),
             vec![(INDEX, rest(next.wrapping_sub(0x1234)))],
@@ -172,10 +171,7 @@ pub fn reach(way: Way, code: u8, r1: u8, own: u32, address: u32) -> Option<Reach
         ),
         Way::LongTwiceIndexed => (
             rx3(code, r1, INDEX, SECOND_INDEX, 0x80_0000),
-            vec![
-                (INDEX, 0xFFFF_FFF8),
-                (SECOND_INDEX, rest(0x7F_FFF8)),
-            ],
+            vec![(INDEX, 0xFFFF_FFF8), (SECOND_INDEX, rest(0x7F_FFF8))],
         ),
     };
     Some(Reaching { halfwords, indexes })

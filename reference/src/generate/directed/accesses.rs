@@ -40,7 +40,9 @@ fn operands(tapes: &mut Tapes) {
 /// Relocations that wrap, that leave the fitted places, and that lead to X'300'.
 fn relocated_places(tapes: &mut Tapes) {
     for name in ["L", "ST", "STB", "LB", "AM", "STM", "LM", "SS"] {
-        for relocation in [0x000, 0x0EF, 0x0F0, 0x0FF, 0x100, 0xFEF, 0xFF0, 0xFF3, 0xFFF] {
+        for relocation in [
+            0x000, 0x0EF, 0x0F0, 0x0FF, 0x100, 0xFEF, 0xFF0, 0xFF3, 0xFFF,
+        ] {
             for digit in [0x1, 0x5] {
                 let scene = Scene::relocated(varied_status(tapes.len()));
                 let scene = scene
@@ -137,7 +139,11 @@ fn multiples_across(tapes: &mut Tapes) {
 fn bit_arrays_across(tapes: &mut Tapes) {
     for name in ["TBT", "SBT", "RBT", "CBT"] {
         for digit in 0..16 {
-            for bit in [8 * 0x1_0000 + 3, 0x8000_0000 + 8 * 0x1_0000, 0u32.wrapping_sub(5)] {
+            for bit in [
+                8 * 0x1_0000 + 3,
+                0x8000_0000 + 8 * 0x1_0000,
+                0u32.wrapping_sub(5),
+            ] {
                 let scene = Scene::relocated(varied_status(tapes.len()))
                     .segment(1, segment(0xFF, 0x000, digit))
                     .register(3, bit)
@@ -201,10 +207,10 @@ fn repeated(tapes: &mut Tapes) {
         ("ST", segment(0xFF, 0, 0x5)),
         ("BFC", segment(0xFF, 0, 0x9)),
     ];
-    for first_kind in 0..KINDS.len() {
-        for second_kind in 0..KINDS.len() {
+    for first_kind in KINDS {
+        for second_kind in KINDS {
             let mut scene = Scene::relocated(0);
-            for (name, register) in [KINDS[first_kind], KINDS[second_kind]] {
+            for (name, register) in [first_kind, second_kind] {
                 let halfwords = rx3(code(name), 0, 0, 0, OPERAND);
                 scene = scene
                     .segment(1, register)

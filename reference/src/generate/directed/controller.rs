@@ -103,15 +103,18 @@ fn loaded_segments(tapes: &mut Tapes) {
     for digit in 0..16 {
         let program = [
             rx1(code("STM"), 0, 0, 0x300),
-            rx1(code("LPSW"), 0, 0, DATA as u16),
+            rx1(code("LPSW"), 0, 0, 0x0E00),
             vec![0x0000],
         ];
         let scene = Scene::new(0)
             .register(0, OPEN)
             .register(1, segment(0x3F, 0xFF0 + digit, digit) | 0xA000_0005)
             .register(2, 0xFFFF_FFFF)
-            .fullwords(DATA, &[RELOCATION, 0x1_2000])
-            .halfwords(0x1000 + 0x100 * digit, &[0x2411, 0x5010, 0x0320, 0x5820, 0x0320])
+            .fullwords(0x0E00, &[RELOCATION, 0x1_2000])
+            .halfwords(
+                0x1000 + 0x100 * digit,
+                &[0x2411, 0x5010, 0x0320, 0x5820, 0x0320],
+            )
             .halfwords(START, &program.concat());
         tapes.push(scene.run(START, 6));
     }

@@ -70,9 +70,7 @@ fn short_numbers(tapes: &mut Tapes) {
 
 /// Every mask with every condition code.
 fn conditions(tapes: &mut Tapes) {
-    for name in [
-        "BTCR", "BFCR", "BTBS", "BTFS", "BFBS", "BFFS", "BTC", "BFC",
-    ] {
+    for name in ["BTCR", "BFCR", "BTBS", "BTFS", "BFBS", "BFFS", "BTC", "BFC"] {
         for mask in 0..16 {
             for condition in 0..16 {
                 let scene = Scene::new(condition).register(7, 0xFFFF_1235);
@@ -127,7 +125,9 @@ fn addresses(tapes: &mut Tapes) {
             }
         }
         for index in EDGES {
-            for second in [0x0000, 0x3FFF, 0x8000, 0xBFFF, 0xC000, 0xFFFF, 0x7A00, 0x4AFF] {
+            for second in [
+                0x0000, 0x3FFF, 0x8000, 0xBFFF, 0xC000, 0xFFFF, 0x7A00, 0x4AFF,
+            ] {
                 let scene = Scene::new(varied_status(tapes.len())).register(10, index);
                 tapes.push(scene.instruction(&[first(code(name), 1, 10), second, 0xFFFF]));
             }
@@ -184,7 +184,9 @@ fn index_branches(tapes: &mut Tapes) {
 }
 
 fn multiples(tapes: &mut Tapes) {
-    let values: Vec<u32> = (0..16).map(|n| 0x0102_0304u32.wrapping_mul(n + 77)).collect();
+    let values: Vec<u32> = (0..16)
+        .map(|n| 0x0102_0304u32.wrapping_mul(n + 77))
+        .collect();
     for name in ["LM", "STM"] {
         for r1 in 0..16 {
             for way in WAYS {

@@ -18,7 +18,7 @@ pub(super) fn add(tapes: &mut Tapes) {
 fn supervisor_calls(tapes: &mut Tapes) {
     for number in 0..16 {
         for way in WAYS {
-            for status in [0, SET_15 | PROTECTION | 7, RELOCATION | PROTECTION | WAIT >> 4] {
+            for status in [0, SET_15 | PROTECTION | 7, RELOCATION | PROTECTION | 0x2809] {
                 let scene = Scene::new(status).all_open();
                 tapes.extend(scene.reaching(way, code("SVC"), number, 0x3456));
                 let scene = Scene::new(status).all_open();
@@ -202,7 +202,12 @@ fn full_traces(tapes: &mut Tapes) {
 }
 
 fn waits(tapes: &mut Tapes) {
-    for status in [WAIT, WAIT | DEVICES, WAIT | RELOCATION | PROTECTION, 0xFFFF_FFFF] {
+    for status in [
+        WAIT,
+        WAIT | DEVICES,
+        WAIT | RELOCATION | PROTECTION,
+        0xFFFF_FFFF,
+    ] {
         for count in [1, 2, 1_000_000] {
             let scene = Scene::new(status).all_open();
             tapes.push(scene.halfwords(START, &[0x2411]).run(START, count));

@@ -43,7 +43,7 @@ fn subroutine(tapes: &mut Tapes) {
             vec![first(code("BFFS"), 2, 8)],
             vec![first(code("SIS"), 14, 1)],
             rx1(code("BAL"), 15, 0, 0xB00),
-            rx1(code("M"), 2, 13, 0x3FFC - 0x4004 + 0x4000),
+            rx3(code("M"), 2, 13, 0, 0xFF_FFF8),
             vec![first(code("BFFS"), 0, 3)],
             // Else: the result is 1.
             vec![first(code("LIS"), 3, 1)],
