@@ -10,12 +10,13 @@ use lib.Dec.{ltb}
 use lib.ListN.{length, getD, take, drop, length-drop}
 use borrow.Author.Needs.{needs}
 use Rattle.std.proofs.shelf.Lists.{drop-more, take-rest, nil-from-length}
-use Rattle.std.specs.declared.option.Option.the-variants.{Some}
+use Rattle.std.specs.declared.option.Option.{Option}
+use Rattle.std.specs.declared.option.Option.the-variants.{None, Some}
 use Rattle.model.specs.declared.Record.{Record}
 use Rattle.model.specs.Effects.{Prog}
-use Rattle.model.specs.Answers.{Answer, denied, played, faulted, accepted}
-use Rattle.model.specs.Console.{Desk}
-use Rattle.model.specs.Tapes.{Order, Command, known, commandOf, Spelling, end, broken, order, spelled, spellFrom, Obeys, Playing, ends, breaks, halts, goesOn}
+use Rattle.model.specs.Answers.{on, Answer, denied, played, faulted, accepted}
+use Rattle.model.specs.Console.{Desk, withKey}
+use Rattle.model.specs.Tapes.{Order, Command, known, commandOf, Spelling, end, broken, order, spelled, spellFrom, spell, Obeys, Playing, ends, breaks, halts, goesOn, PlaysUnless}
 use Rattle.std.specs.declared.result.Result.the-variants.{Ok}
 use Rattle.tape.specs.declared.orders.Order.{Order as TapeOrder}
 use Rattle.tape.specs.declared.orders.Order.the-variants.{Point, Deposit, Set, Go}
@@ -132,3 +133,17 @@ module _ (meaning : ℕ → Prog) (cap : ℕ) (first : Spelling) (start : Desk) 
       from x v p
       (subst (λ (c : ℕ). Playing meaning c (spellFrom xs 0 place a) n w q x v p) ec
       (subst (λ (l : List ℕ). Playing meaning cap′ (spellFrom l 0 place a) n w q x v p) ex (one n x v p more′)))
+
+-- A tape that is not played, and one that is.
+module _ (meaning : ℕ → Prog) where
+  pub play-off :
+      (d : Option ℕ) (n cap : ℕ) (tape : List ℕ) (w : Desk) (q : List Record) (a : Answer) (v : Desk) (p : List Record) →
+      d ≡ Some n → a ≡ faulted n 0 None → v ≡ w → p ≡ q → PlaysUnless meaning d cap tape w q a v p
+  play-off d n cap tape w q a v p e ea ev ep =
+      subst (λ (x : Option ℕ). PlaysUnless meaning x cap tape w q a v p) (sym e) (record { answer = ea; machine = ev; trace = ep })
+
+  pub play-made :
+      (d : Option ℕ) (cap : ℕ) (tape : List ℕ) (w final : Desk) (q : List Record) (a : Answer) (v : Desk) (p : List Record) →
+      d ≡ None → Playing meaning cap (spell tape) 0 (withKey on w) q a final p → v ≡ withKey (w .key) final → PlaysUnless meaning d cap tape w q a v p
+  play-made d cap tape w final q a v p e plays back =
+      subst (λ (x : Option ℕ). PlaysUnless meaning x cap tape w q a v p) (sym e) (record { final = final; plays = plays; back = back })

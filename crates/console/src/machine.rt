@@ -4,11 +4,13 @@ ghost use Rattle.queue.specs.Rows.{capacity};
 ghost use Rattle.model.specs.Console.{made as madeDesk, turnKey, initialise, examine, deposit, setItem, showItem};
 ghost use Rattle.model.specs.Runs.{StepsSplit};
 ghost use Rattle.instructions.specs.Instructions.{instruction};
+ghost use Rattle.console.specs.Tape.{Plays};
 ghost use Rattle.console.specs.View.{deskOf, doneBy, shownBy, steppedBy, ranBy, Says, Steps, Runs};
 use crate::key::Key;
 use crate::registers_at::{check_item, item_in, set_item};
 use crate::runs::{check_room, run_at};
 use crate::store_at::{deposit_at, place_at};
+use crate::tapes::play_on;
 use bus::meaning::Bus;
 use model::{Denial, Item, Record, StepAnswer};
 use processor::core::Core;
@@ -16,6 +18,8 @@ use queue::Queue;
 use steps::run::RunAnswer;
 use steps::step::step;
 use store::meaning::Store;
+use tape::faults::TapeFaultFromDenial;
+use tape::orders::TapeFault;
 
 /// A machine with its key, its processor, its store and its bus. Only the calls below change it.
 #[derive(Drop)]
@@ -108,5 +112,19 @@ impl<S: Store, B: Bus> Machine<S, B> {
         self.key.unless_off()?;
         let answer = run_at(&mut self.core, count, trace)?;
         Ok(answer)
+    }
+
+    /// Plays a tape with the key ON; answers the number of commands obeyed. The key is back where it was, however the tape ends.
+    pub fn play(&mut self, tape: &[u8], trace: &mut Queue<'_, Record>) -> Result<usize, TapeFault>
+        ensures says { λ r. ⌜ Plays (S·Store .meaning) (B·Bus .devices) (now (tape .entry)) (now (self .entry)) (now (trace .entry)) r (now (self .exit)) (now (trace .exit)) ⌝ }
+        ensures key { λ _. ⌜ now (self .exit) .key ≡ now (self .entry) .key ⌝ }
+        ensures same { λ _. ⌜ name (now (trace .exit) .slots) ≡ name (now (trace .entry) .slots) ⌝ }
+        ensures room { λ _. ⌜ capacity (now (trace .exit)) ≡ capacity (now (trace .entry)) ⌝ }
+    {
+        self.key.unless_off()?;
+        let mut key = self.key;
+        let answer = play_on(&mut key, &mut self.core, tape, trace);
+        self.key = key;
+        answer
     }
 }
