@@ -21,11 +21,7 @@ use Rattle.decode.specs.declared.operations.Operation.{Operation}
 use Rattle.decode.specs.declared.operations.Operation.the-variants.{Register, Short, Memory, Immediate, LongImmediate, Illegal}
 use Rattle.decode.specs.Codes.{isPrivileged, operationOf}
 use Rattle.decode.specs.Forms.{codeField, firstField, secondField}
-use Rattle.operands.specs.Operands.{indexTree, thirdTree, nextOf, addressTree, loadFull, storeFull, resultTree, applyTree, branchTrue, branchFalse}
-
--- One after the other, the first one's number not used.
-abbrev pub then : Prog → Prog → Prog
-then p q = seq p (λ _. q)
+use Rattle.operands.specs.Operands.{then, indexTree, thirdTree, nextOf, addressTree, loadFull, storeFull, resultTree, applyTree, branchTrue, branchFalse}
 
 -- ── RR: registers r1 and r2; the instruction stands at own ──
 abbrev pub balrTree : ℕ → ℕ → ℕ → Prog
@@ -128,12 +124,12 @@ immediateTree Sra r1 y = stop unlawful
 immediateTree Sla r1 y = stop unlawful
 
 -- ── By the form: h is the first halfword, of the instruction at own ──
+-- w and x are the second halfword and the third.
+unfoldable pub addressedTree : MemoryOp → ℕ → ℕ → ℕ → ℕ → Prog
+addressedTree o own h w x = seq (addressTree own h w x) (λ a. memoryTree o (firstField h) a (nextOf own w))
+
 unfoldable pub memoryBody : MemoryOp → ℕ → ℕ → Prog
-memoryBody o own h =
-    seq (fetch (address (own + 2))) (λ w.
-    seq (thirdTree own w) (λ x.
-    seq (addressTree own h w x) (λ a.
-    memoryTree o (firstField h) a (nextOf own w))))
+memoryBody o own h = seq (fetch (address (own + 2))) (λ w. seq (thirdTree own w) (λ x. addressedTree o own h w x))
 
 -- The operand is the second halfword, sign-extended, plus the index.
 unfoldable pub immediateBody : ImmediateOp → ℕ → ℕ → Prog

@@ -1,12 +1,21 @@
 ghost use Rattle.processor.specs.View.{Does};
-ghost use Rattle.instructions.specs.Instructions.{sthTree, stTree, withHalfTree, withFullTree, lpswTree, svcTree, memoryTree, memoryBody};
+ghost use Rattle.instructions.specs.Instructions.{sthTree, stTree, withHalfTree, withFullTree, lpswTree, svcTree, memoryTree, addressedTree, memoryBody};
 use bus::meaning::Bus;
-use decode::forms::{Parts, first_field, take_apart};
-use decode::operations::{Form, Function, MemoryOp};
+use decode::forms::Parts;
+use decode::forms::first_field;
+use decode::forms::take_apart;
+use decode::operations::Form;
+use decode::operations::Function;
+use decode::operations::MemoryOp;
 use fields::parts::low_half;
 use model::Trap;
-use operands::addresses::{address, load_full, next, store_full, third};
-use operands::branches::{branch_false, branch_true};
+use operands::addresses::address;
+use operands::addresses::load_full;
+use operands::addresses::next;
+use operands::addresses::store_full;
+use operands::addresses::third;
+use operands::branches::branch_false;
+use operands::branches::branch_true;
 use operands::functions::apply;
 use processor::core::Core;
 use registers::words::ProgramAddress;
@@ -14,7 +23,12 @@ use store::meaning::Store;
 use words::sums::extended;
 
 /// Stores the low half of a register.
-fn sth<S: Store, B: Bus>(m: &mut Core<S, B>, r1: u8, a: ProgramAddress, next: ProgramAddress) -> Result<(), Trap>
+fn sth<S: Store, B: Bus>(
+    m: &mut Core<S, B>,
+    r1: u8,
+    a: ProgramAddress,
+    next: ProgramAddress,
+) -> Result<(), Trap>
     ensures { λ r. ⌜ Does (S·Store .meaning) (B·Bus .devices) (sthTree r1 (a .at) (next .at)) (now (m .entry)) r (now (m .exit)) ⌝ }
 {
     let value = m.reg(r1);
@@ -24,7 +38,12 @@ fn sth<S: Store, B: Bus>(m: &mut Core<S, B>, r1: u8, a: ProgramAddress, next: Pr
 }
 
 /// Stores a register.
-fn st<S: Store, B: Bus>(m: &mut Core<S, B>, r1: u8, a: ProgramAddress, next: ProgramAddress) -> Result<(), Trap>
+fn st<S: Store, B: Bus>(
+    m: &mut Core<S, B>,
+    r1: u8,
+    a: ProgramAddress,
+    next: ProgramAddress,
+) -> Result<(), Trap>
     ensures { λ r. ⌜ Does (S·Store .meaning) (B·Bus .devices) (stTree r1 (a .at) (next .at)) (now (m .entry)) r (now (m .exit)) ⌝ }
 {
     let value = m.reg(r1);
@@ -34,7 +53,13 @@ fn st<S: Store, B: Bus>(m: &mut Core<S, B>, r1: u8, a: ProgramAddress, next: Pro
 }
 
 /// Applies a function to a register and a halfword of the store.
-fn with_half<S: Store, B: Bus>(m: &mut Core<S, B>, function: Function, r1: u8, a: ProgramAddress, next: ProgramAddress) -> Result<(), Trap>
+fn with_half<S: Store, B: Bus>(
+    m: &mut Core<S, B>,
+    function: Function,
+    r1: u8,
+    a: ProgramAddress,
+    next: ProgramAddress,
+) -> Result<(), Trap>
     ensures { λ r. ⌜ Does (S·Store .meaning) (B·Bus .devices) (withHalfTree function r1 (a .at) (next .at)) (now (m .entry)) r (now (m .exit)) ⌝ }
 {
     let half = m.load(a.to_half())?;
@@ -44,7 +69,13 @@ fn with_half<S: Store, B: Bus>(m: &mut Core<S, B>, function: Function, r1: u8, a
 }
 
 /// Applies a function to a register and a fullword of the store.
-fn with_full<S: Store, B: Bus>(m: &mut Core<S, B>, function: Function, r1: u8, a: ProgramAddress, next: ProgramAddress) -> Result<(), Trap>
+fn with_full<S: Store, B: Bus>(
+    m: &mut Core<S, B>,
+    function: Function,
+    r1: u8,
+    a: ProgramAddress,
+    next: ProgramAddress,
+) -> Result<(), Trap>
     ensures { λ r. ⌜ Does (S·Store .meaning) (B·Bus .devices) (withFullTree function r1 (a .at) (next .at)) (now (m .entry)) r (now (m .exit)) ⌝ }
 {
     let y = load_full(m, a.to_full())?;
@@ -65,7 +96,12 @@ fn lpsw<S: Store, B: Bus>(m: &mut Core<S, B>, a: ProgramAddress) -> Result<(), T
 }
 
 /// Calls the supervisor.
-fn svc<S: Store, B: Bus>(m: &mut Core<S, B>, r1: u8, a: ProgramAddress, next: ProgramAddress) -> Result<(), Trap>
+fn svc<S: Store, B: Bus>(
+    m: &mut Core<S, B>,
+    r1: u8,
+    a: ProgramAddress,
+    next: ProgramAddress,
+) -> Result<(), Trap>
     ensures { λ r. ⌜ Does (S·Store .meaning) (B·Bus .devices) (svcTree r1 (a .at) (next .at)) (now (m .entry)) r (now (m .exit)) ⌝ }
 {
     m.jump(next);
@@ -73,7 +109,13 @@ fn svc<S: Store, B: Bus>(m: &mut Core<S, B>, r1: u8, a: ProgramAddress, next: Pr
 }
 
 /// An operation with an address.
-pub fn memory<S: Store, B: Bus>(m: &mut Core<S, B>, operation: MemoryOp, r1: u8, a: ProgramAddress, next: ProgramAddress) -> Result<(), Trap>
+pub fn memory<S: Store, B: Bus>(
+    m: &mut Core<S, B>,
+    operation: MemoryOp,
+    r1: u8,
+    a: ProgramAddress,
+    next: ProgramAddress,
+) -> Result<(), Trap>
     ensures { λ r. ⌜ Does (S·Store .meaning) (B·Bus .devices) (memoryTree operation r1 (a .at) (next .at)) (now (m .entry)) r (now (m .exit)) ⌝ }
 {
     match operation {
@@ -125,12 +167,39 @@ pub fn memory<S: Store, B: Bus>(m: &mut Core<S, B>, operation: MemoryOp, r1: u8,
     }
 }
 
+/// Does an instruction with an address that was taken apart.
+fn addressed<S: Store, B: Bus>(
+    m: &mut Core<S, B>,
+    operation: MemoryOp,
+    own: ProgramAddress,
+    parts: Parts<'_>,
+) -> Result<(), Trap>
+    ensures { λ r. ⌜ Does (S·Store .meaning) (B·Bus .devices) (addressedTree operation (own .at) (parts .entry .first) (parts .entry .second) (parts .entry .third)) (now (m .entry)) r (now (m .exit)) ⌝ }
+{
+    let a = address(m, own, parts);
+    memory(
+        m,
+        operation,
+        first_field(parts.first),
+        a,
+        next(own, parts.second),
+    )
+}
+
 /// Fetches the rest of an instruction with an address, and does it.
-pub fn memory_body<S: Store, B: Bus>(m: &mut Core<S, B>, operation: MemoryOp, own: ProgramAddress, first: u16) -> Result<(), Trap>
+pub fn memory_body<S: Store, B: Bus>(
+    m: &mut Core<S, B>,
+    operation: MemoryOp,
+    own: ProgramAddress,
+    first: u16,
+) -> Result<(), Trap>
     ensures { λ r. ⌜ Does (S·Store .meaning) (B·Bus .devices) (memoryBody operation (own .at) first) (now (m .entry)) r (now (m .exit)) ⌝ }
 {
     let second = m.fetch(own.plus(2))?;
     let third = third(m, own, second)?;
-    let a = address(m, own, Parts { first, second, third, rest: &[] });
-    memory(m, operation, first_field(first), a, next(own, second))
+    let words = [first, second, third];
+    match take_apart(Form::Indexed, &words) {
+        Some(parts) => addressed(m, operation, own, parts),
+        None => Err(Trap::Illegal),
+    }
 }

@@ -2,12 +2,15 @@ ghost use Rattle.processor.specs.View.{Does};
 ghost use Prim.Native.Nat.{_+_};
 ghost use Rattle.model.specs.Status.{address};
 ghost use Rattle.model.specs.Effects.{jump};
-ghost use Rattle.operands.specs.Operands.{applyTree};
-ghost use Rattle.instructions.specs.Instructions.{then, balrTree, registerTree, shortTree};
+ghost use Rattle.operands.specs.Operands.{then, applyTree};
+ghost use Rattle.instructions.specs.Instructions.{balrTree, registerTree, shortTree};
 use bus::meaning::Bus;
-use decode::operations::{Function, RegisterOp, ShortOp};
+use decode::operations::Function;
+use decode::operations::RegisterOp;
+use decode::operations::ShortOp;
 use model::Trap;
-use operands::branches::{branch_false, branch_true};
+use operands::branches::branch_false;
+use operands::branches::branch_true;
 use operands::functions::apply;
 use processor::core::Core;
 use registers::words::ProgramAddress;
@@ -15,7 +18,12 @@ use store::meaning::Store;
 use words::sums::difference;
 
 /// Branch and link: the target is taken before the register changes.
-fn balr<S: Store, B: Bus>(m: &mut Core<S, B>, own: ProgramAddress, r1: u8, r2: u8) -> Result<(), Trap>
+fn balr<S: Store, B: Bus>(
+    m: &mut Core<S, B>,
+    own: ProgramAddress,
+    r1: u8,
+    r2: u8,
+) -> Result<(), Trap>
     ensures { λ r. ⌜ Does (S·Store .meaning) (B·Bus .devices) (balrTree (own .at) r1 r2) (now (m .entry)) r (now (m .exit)) ⌝ }
 {
     let target = m.reg(r2);
@@ -25,7 +33,13 @@ fn balr<S: Store, B: Bus>(m: &mut Core<S, B>, own: ProgramAddress, r1: u8, r2: u
 }
 
 /// An operation between two registers.
-pub fn register<S: Store, B: Bus>(m: &mut Core<S, B>, operation: RegisterOp, own: ProgramAddress, r1: u8, r2: u8) -> Result<(), Trap>
+pub fn register<S: Store, B: Bus>(
+    m: &mut Core<S, B>,
+    operation: RegisterOp,
+    own: ProgramAddress,
+    r1: u8,
+    r2: u8,
+) -> Result<(), Trap>
     ensures { λ r. ⌜ Does (S·Store .meaning) (B·Bus .devices) (registerTree operation (own .at) r1 r2) (now (m .entry)) r (now (m .exit)) ⌝ }
 {
     match operation {
@@ -62,7 +76,13 @@ pub fn register<S: Store, B: Bus>(m: &mut Core<S, B>, operation: RegisterOp, own
 }
 
 /// Applies a function to a register and a number, and goes on.
-fn applied<S: Store, B: Bus>(m: &mut Core<S, B>, function: Function, own: ProgramAddress, r1: u8, y: u32) -> Result<(), Trap>
+fn applied<S: Store, B: Bus>(
+    m: &mut Core<S, B>,
+    function: Function,
+    own: ProgramAddress,
+    r1: u8,
+    y: u32,
+) -> Result<(), Trap>
     ensures { λ r. ⌜ Does (S·Store .meaning) (B·Bus .devices) (then (applyTree function r1 y) (jump (address (own .at + 2)))) (now (m .entry)) r (now (m .exit)) ⌝ }
 {
     apply(m, function, r1, y);
@@ -71,7 +91,13 @@ fn applied<S: Store, B: Bus>(m: &mut Core<S, B>, function: Function, own: Progra
 }
 
 /// An operation with a number of four bits.
-pub fn short<S: Store, B: Bus>(m: &mut Core<S, B>, operation: ShortOp, own: ProgramAddress, r1: u8, n: u8) -> Result<(), Trap>
+pub fn short<S: Store, B: Bus>(
+    m: &mut Core<S, B>,
+    operation: ShortOp,
+    own: ProgramAddress,
+    r1: u8,
+    n: u8,
+) -> Result<(), Trap>
     ensures { λ r. ⌜ Does (S·Store .meaning) (B·Bus .devices) (shortTree operation (own .at) r1 n) (now (m .entry)) r (now (m .exit)) ⌝ }
 {
     let distance = 2 * n as u16;

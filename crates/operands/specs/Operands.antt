@@ -12,6 +12,10 @@ use Rattle.decode.specs.declared.operations.Function.{Function}
 use Rattle.decode.specs.declared.operations.Function.the-variants.{And, CompareLogical, Or, ExclusiveOr, Load, Compare, Add, Subtract, Test}
 use Rattle.decode.specs.Forms.{secondField, isLong, indexField, addressOf}
 
+-- One after the other, the first one's number not used.
+abbrev pub then : Prog → Prog → Prog
+then p q = seq p (λ _. q)
+
 -- ── Addresses ──
 -- Register 0 as an index counts 0.
 abbrev pub indexTree : ℕ → Prog
@@ -35,12 +39,12 @@ unfoldable pub loadFull : ℕ → Prog
 loadFull a = seq (load a) (λ high. seq (load (address (a + 2))) (λ low. ret (joined high low)))
 
 unfoldable pub storeFull : ℕ → ℕ → Prog
-storeFull a v = seq (store a (put (highHalf v))) (λ _. store (address (a + 2)) (put (lowHalf v)))
+storeFull a v = then (store a (put (highHalf v))) (store (address (a + 2)) (put (lowHalf v)))
 
 -- ── The functions, of register r and the operand y ──
 -- A result that goes to the register, with its marks.
 abbrev pub resultTree : ℕ → ℕ → Prog
-resultTree r v = seq (setReg r v) (λ _. setCode (marks v))
+resultTree r v = then (setReg r v) (setCode (marks v))
 
 abbrev pub applyTree : Function → ℕ → ℕ → Prog
 applyTree And r y = seq (reg r) (λ x. resultTree r (bitAnd x y))
@@ -49,8 +53,8 @@ applyTree Or r y = seq (reg r) (λ x. resultTree r (bitOr x y))
 applyTree ExclusiveOr r y = seq (reg r) (λ x. resultTree r (bitXor x y))
 applyTree Load r y = resultTree r y
 applyTree Compare r y = seq (reg r) (λ x. setCode (compareCode x y))
-applyTree Add r y = seq (reg r) (λ x. seq (setReg r (sum x y)) (λ _. setCode (sumCode x y)))
-applyTree Subtract r y = seq (reg r) (λ x. seq (setReg r (difference x y)) (λ _. setCode (differenceCode x y)))
+applyTree Add r y = seq (reg r) (λ x. then (setReg r (sum x y)) (setCode (sumCode x y)))
+applyTree Subtract r y = seq (reg r) (λ x. then (setReg r (difference x y)) (setCode (differenceCode x y)))
 applyTree Test r y = seq (reg r) (λ x. setCode (marks (bitAnd x y)))
 
 -- ── Branches: to the target if a bit of the mask is in the condition code, or if none is ──
