@@ -1,6 +1,12 @@
 ghost use Rattle.processor.specs.View.{Does};
 ghost use Rattle.instructions.specs.Instructions.{immediateTree, immediateBody, longBody};
 use bus::meaning::Bus;
+use computing::turns::rll;
+use computing::turns::rrl;
+use computing::turns::sla;
+use computing::turns::sll;
+use computing::turns::sra;
+use computing::turns::srl;
 use decode::forms::first_field;
 use decode::forms::second_field;
 use decode::forms::take_apart;
@@ -31,12 +37,30 @@ fn immediate<S: Store, B: Bus>(
             apply(m, function, r1, y);
             Ok(())
         }
-        ImmediateOp::Rrl => Err(Trap::Illegal),
-        ImmediateOp::Rll => Err(Trap::Illegal),
-        ImmediateOp::Srl => Err(Trap::Illegal),
-        ImmediateOp::Sll => Err(Trap::Illegal),
-        ImmediateOp::Sra => Err(Trap::Illegal),
-        ImmediateOp::Sla => Err(Trap::Illegal),
+        ImmediateOp::Rrl => {
+            rrl(m, r1, y);
+            Ok(())
+        }
+        ImmediateOp::Rll => {
+            rll(m, r1, y);
+            Ok(())
+        }
+        ImmediateOp::Srl => {
+            srl(m, r1, y);
+            Ok(())
+        }
+        ImmediateOp::Sll => {
+            sll(m, r1, y);
+            Ok(())
+        }
+        ImmediateOp::Sra => {
+            sra(m, r1, y);
+            Ok(())
+        }
+        ImmediateOp::Sla => {
+            sla(m, r1, y);
+            Ok(())
+        }
     }
 }
 

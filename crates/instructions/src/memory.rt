@@ -1,18 +1,24 @@
 ghost use Rattle.processor.specs.View.{Does};
-ghost use Rattle.instructions.specs.Instructions.{sthTree, stTree, withHalfTree, withFullTree, lpswTree, svcTree, memoryTree, addressedTree, memoryBody};
+ghost use Rattle.instructions.specs.Instructions.{withHalfTree, withFullTree, lpswTree, svcTree, memoryTree, addressedTree, memoryBody};
 use bus::meaning::Bus;
+use computing::products::d;
+use computing::products::m as multiply_full;
 use decode::forms::Parts;
 use decode::forms::first_field;
 use decode::forms::take_apart;
 use decode::operations::Form;
 use decode::operations::Function;
 use decode::operations::MemoryOp;
-use fields::parts::low_half;
+use devices::bytes::oc;
+use devices::bytes::rd;
+use devices::bytes::ss;
+use devices::bytes::wd;
 use model::Trap;
+use multiples::lm;
+use multiples::stm;
 use operands::addresses::address;
 use operands::addresses::load_full;
 use operands::addresses::next;
-use operands::addresses::store_full;
 use operands::addresses::third;
 use operands::branches::branch_false;
 use operands::branches::branch_true;
@@ -20,37 +26,22 @@ use operands::functions::apply;
 use processor::core::Core;
 use registers::words::ProgramAddress;
 use store::meaning::Store;
+use transfers::bits::cbt;
+use transfers::bits::rbt;
+use transfers::bits::sbt;
+use transfers::bits::tbt;
+use transfers::loops::bxh;
+use transfers::loops::bxle;
+use transfers::moves::clb;
+use transfers::moves::lb;
+use transfers::moves::lhl;
+use transfers::moves::st;
+use transfers::moves::stb;
+use transfers::moves::sth;
+use transfers::updates::ahm;
+use transfers::updates::am;
+use transfers::updates::ts;
 use words::sums::extended;
-
-/// Stores the low half of a register.
-fn sth<S: Store, B: Bus>(
-    m: &mut Core<S, B>,
-    r1: u8,
-    a: ProgramAddress,
-    next: ProgramAddress,
-) -> Result<(), Trap>
-    ensures { λ r. ⌜ Does (S·Store .meaning) (B·Bus .devices) (sthTree r1 (a .at) (next .at)) (now (m .entry)) r (now (m .exit)) ⌝ }
-{
-    let value = m.reg(r1);
-    m.store(a.to_half(), low_half(value))?;
-    m.jump(next);
-    Ok(())
-}
-
-/// Stores a register.
-fn st<S: Store, B: Bus>(
-    m: &mut Core<S, B>,
-    r1: u8,
-    a: ProgramAddress,
-    next: ProgramAddress,
-) -> Result<(), Trap>
-    ensures { λ r. ⌜ Does (S·Store .meaning) (B·Bus .devices) (stTree r1 (a .at) (next .at)) (now (m .entry)) r (now (m .exit)) ⌝ }
-{
-    let value = m.reg(r1);
-    store_full(m, a.to_full(), value)?;
-    m.jump(next);
-    Ok(())
-}
 
 /// Applies a function to a register and a halfword of the store.
 fn with_half<S: Store, B: Bus>(
@@ -143,27 +134,33 @@ pub fn memory<S: Store, B: Bus>(
             m.jump(next);
             Ok(())
         }
-        MemoryOp::Am => Err(Trap::Illegal),
-        MemoryOp::M => Err(Trap::Illegal),
-        MemoryOp::D => Err(Trap::Illegal),
-        MemoryOp::Ahm => Err(Trap::Illegal),
-        MemoryOp::Lhl => Err(Trap::Illegal),
-        MemoryOp::Tbt => Err(Trap::Illegal),
-        MemoryOp::Sbt => Err(Trap::Illegal),
-        MemoryOp::Rbt => Err(Trap::Illegal),
-        MemoryOp::Cbt => Err(Trap::Illegal),
-        MemoryOp::Bxh => Err(Trap::Illegal),
-        MemoryOp::Bxle => Err(Trap::Illegal),
-        MemoryOp::Stm => Err(Trap::Illegal),
-        MemoryOp::Lm => Err(Trap::Illegal),
-        MemoryOp::Stb => Err(Trap::Illegal),
-        MemoryOp::Lb => Err(Trap::Illegal),
-        MemoryOp::Clb => Err(Trap::Illegal),
-        MemoryOp::Wd => Err(Trap::Illegal),
-        MemoryOp::Rd => Err(Trap::Illegal),
-        MemoryOp::Ss => Err(Trap::Illegal),
-        MemoryOp::Oc => Err(Trap::Illegal),
-        MemoryOp::Ts => Err(Trap::Illegal),
+        MemoryOp::Am => am(m, r1, a, next),
+        MemoryOp::M => multiply_full(m, r1, a, next),
+        MemoryOp::D => d(m, r1, a, next),
+        MemoryOp::Ahm => ahm(m, r1, a, next),
+        MemoryOp::Lhl => lhl(m, r1, a, next),
+        MemoryOp::Tbt => tbt(m, r1, a, next),
+        MemoryOp::Sbt => sbt(m, r1, a, next),
+        MemoryOp::Rbt => rbt(m, r1, a, next),
+        MemoryOp::Cbt => cbt(m, r1, a, next),
+        MemoryOp::Bxh => {
+            bxh(m, r1, a, next);
+            Ok(())
+        }
+        MemoryOp::Bxle => {
+            bxle(m, r1, a, next);
+            Ok(())
+        }
+        MemoryOp::Stm => stm(m, r1, a, next),
+        MemoryOp::Lm => lm(m, r1, a, next),
+        MemoryOp::Stb => stb(m, r1, a, next),
+        MemoryOp::Lb => lb(m, r1, a, next),
+        MemoryOp::Clb => clb(m, r1, a, next),
+        MemoryOp::Wd => wd(m, r1, a, next),
+        MemoryOp::Rd => rd(m, r1, a, next),
+        MemoryOp::Ss => ss(m, r1, a, next),
+        MemoryOp::Oc => oc(m, r1, a, next),
+        MemoryOp::Ts => ts(m, a, next),
     }
 }
 

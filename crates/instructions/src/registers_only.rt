@@ -3,18 +3,31 @@ ghost use Prim.Native.Nat.{_+_};
 ghost use Rattle.model.specs.Status.{address};
 ghost use Rattle.model.specs.Effects.{jump};
 ghost use Rattle.operands.specs.Operands.{then, applyTree};
-ghost use Rattle.instructions.specs.Instructions.{balrTree, registerTree, shortTree};
+ghost use Rattle.instructions.specs.Instructions.{balrTree, lpswrTree, epsrTree, registerTree, shortTree};
 use bus::meaning::Bus;
+use computing::products::divide;
+use computing::products::multiply;
+use computing::turns::sll;
+use computing::turns::srl;
 use decode::operations::Function;
 use decode::operations::RegisterOp;
 use decode::operations::ShortOp;
+use devices::words::ocr;
+use devices::words::rdr;
+use devices::words::ssr;
+use devices::words::wdr;
 use model::Trap;
+use operands::addresses::following;
 use operands::branches::branch_false;
 use operands::branches::branch_true;
 use operands::functions::apply;
 use processor::core::Core;
 use registers::words::ProgramAddress;
 use store::meaning::Store;
+use transfers::between::exbr;
+use transfers::between::exhr;
+use transfers::between::lbr;
+use transfers::between::stbr;
 use words::sums::difference;
 
 /// Branch and link: the target is taken before the register changes.
@@ -29,6 +42,34 @@ fn balr<S: Store, B: Bus>(
     let target = m.reg(r2);
     m.set_reg(r1, own.plus(2).number());
     m.jump(ProgramAddress::new(target));
+    Ok(())
+}
+
+/// Loads a PSW from two registers.
+fn lpswr<S: Store, B: Bus>(m: &mut Core<S, B>, r2: u8) -> Result<(), Trap>
+    ensures { λ r. ⌜ Does (S·Store .meaning) (B·Bus .devices) (lpswrTree r2) (now (m .entry)) r (now (m .exit)) ⌝ }
+{
+    let status = m.reg(r2);
+    let location = m.reg(following(r2, 1));
+    m.set_status(status)?;
+    m.jump(ProgramAddress::new(location));
+    Ok(())
+}
+
+/// Exchanges the status: the first register takes the old one before the second is read.
+fn epsr<S: Store, B: Bus>(
+    m: &mut Core<S, B>,
+    own: ProgramAddress,
+    r1: u8,
+    r2: u8,
+) -> Result<(), Trap>
+    ensures { λ r. ⌜ Does (S·Store .meaning) (B·Bus .devices) (epsrTree (own .at) r1 r2) (now (m .entry)) r (now (m .exit)) ⌝ }
+{
+    let old = m.status()?;
+    m.set_reg(r1, old);
+    let new = m.reg(r2);
+    m.set_status(new)?;
+    m.jump(own.plus(2));
     Ok(())
 }
 
@@ -60,18 +101,42 @@ pub fn register<S: Store, B: Bus>(
             m.jump(own.plus(2));
             Ok(())
         }
-        RegisterOp::Lpswr => Err(Trap::Illegal),
-        RegisterOp::Mr => Err(Trap::Illegal),
-        RegisterOp::Dr => Err(Trap::Illegal),
-        RegisterOp::Exhr => Err(Trap::Illegal),
-        RegisterOp::Stbr => Err(Trap::Illegal),
-        RegisterOp::Lbr => Err(Trap::Illegal),
-        RegisterOp::Exbr => Err(Trap::Illegal),
-        RegisterOp::Epsr => Err(Trap::Illegal),
-        RegisterOp::Wdr => Err(Trap::Illegal),
-        RegisterOp::Rdr => Err(Trap::Illegal),
-        RegisterOp::Ssr => Err(Trap::Illegal),
-        RegisterOp::Ocr => Err(Trap::Illegal),
+        RegisterOp::Lpswr => lpswr(m, r2),
+        RegisterOp::Mr => {
+            let y = m.reg(r2);
+            multiply(m, r1, y);
+            m.jump(own.plus(2));
+            Ok(())
+        }
+        RegisterOp::Dr => {
+            let y = m.reg(r2);
+            divide(m, r1, y, own.plus(2))
+        }
+        RegisterOp::Exhr => {
+            exhr(m, r1, r2);
+            m.jump(own.plus(2));
+            Ok(())
+        }
+        RegisterOp::Stbr => {
+            stbr(m, r1, r2);
+            m.jump(own.plus(2));
+            Ok(())
+        }
+        RegisterOp::Lbr => {
+            lbr(m, r1, r2);
+            m.jump(own.plus(2));
+            Ok(())
+        }
+        RegisterOp::Exbr => {
+            exbr(m, r1, r2);
+            m.jump(own.plus(2));
+            Ok(())
+        }
+        RegisterOp::Epsr => epsr(m, own, r1, r2),
+        RegisterOp::Wdr => wdr(m, r1, r2, own.plus(2)),
+        RegisterOp::Rdr => rdr(m, r1, r2, own.plus(2)),
+        RegisterOp::Ssr => ssr(m, r1, r2, own.plus(2)),
+        RegisterOp::Ocr => ocr(m, r1, r2, own.plus(2)),
     }
 }
 
@@ -102,8 +167,16 @@ pub fn short<S: Store, B: Bus>(
 {
     let distance = 2 * n as u16;
     match operation {
-        ShortOp::Srls => Err(Trap::Illegal),
-        ShortOp::Slls => Err(Trap::Illegal),
+        ShortOp::Srls => {
+            srl(m, r1, n as u32);
+            m.jump(own.plus(2));
+            Ok(())
+        }
+        ShortOp::Slls => {
+            sll(m, r1, n as u32);
+            m.jump(own.plus(2));
+            Ok(())
+        }
         ShortOp::Btbs => {
             branch_true(m, r1, own.minus(distance), own.plus(2));
             Ok(())

@@ -1,13 +1,14 @@
 -- What instructions share: indexes and addresses, fullwords in the store, the functions of the families, and branches.
 use mathlib.Core.Bool.{Bool, true, false, cond}
-use Prim.Native.Nat.{ℕ, _+_}
+use Prim.Native.Nat.{ℕ, _+_, _%_}
 use lib.Dec.{eqb}
 use lib.Bits.{bitAnd, bitOr, bitXor}
 use Rattle.model.specs.Status.{address}
 use Rattle.model.specs.Effects.{Prog, ret, reg, setReg, getCode, setCode, jump, fetch, load, store, seq}
+use Rattle.registers.specs.Parity.{isOdd}
 use Rattle.processor.specs.Writes.{put}
 use Rattle.words.specs.Sums.{marks, sum, sumCode, difference, differenceCode, compareCode, compareLogicalCode}
-use Rattle.fields.specs.Parts.{joined, highHalf, lowHalf}
+use Rattle.fields.specs.Parts.{joined, highHalf, lowHalf, byteAt}
 use Rattle.decode.specs.declared.operations.Function.{Function}
 use Rattle.decode.specs.declared.operations.Function.the-variants.{And, CompareLogical, Or, ExclusiveOr, Load, Compare, Add, Subtract, Test}
 use Rattle.decode.specs.Forms.{secondField, isLong, indexField, addressOf}
@@ -34,7 +35,15 @@ unfoldable pub addressTree : ℕ → ℕ → ℕ → ℕ → Prog
 addressTree own h w x =
     seq (indexTree (secondField h)) (λ i. seq (indexTree (cond (isLong w) (indexField w) 0)) (λ j. ret (addressOf own w x i j)))
 
--- ── Fullwords, the high half first ──
+-- ── Register numbers ──
+-- The register k after register n; after 15 comes 0.
+unfoldable pub following : ℕ → ℕ → ℕ
+following n k = (n + k) % 16
+
+-- ── Bytes, and fullwords, the high half first ──
+unfoldable pub loadByte : ℕ → Prog
+loadByte a = seq (load a) (λ h. ret (byteAt (isOdd a) h))
+
 unfoldable pub loadFull : ℕ → Prog
 loadFull a = seq (load a) (λ high. seq (load (address (a + 2))) (λ low. ret (joined high low)))
 

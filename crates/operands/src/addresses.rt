@@ -3,13 +3,14 @@ ghost use mathlib.Core.Bool.{false};
 ghost use Rattle.decode.specs.Forms.{isLong};
 ghost use Rattle.std.specs.Vec.{made};
 ghost use Rattle.processor.specs.View.{Does, Gives, DoesCalmly, GivesCalmly, ShowsCalmly};
-ghost use Rattle.operands.specs.Operands.{indexTree, thirdTree, nextOf, addressTree, loadFull, storeFull};
+ghost use Rattle.operands.specs.Operands.{indexTree, thirdTree, nextOf, addressTree, following, loadByte, loadFull, storeFull};
 use bus::meaning::Bus;
 use decode::forms::Parts;
 use decode::forms::address_of;
 use decode::forms::index_field;
 use decode::forms::is_long;
 use decode::forms::second_field;
+use fields::parts::byte_at;
 use fields::parts::high_half;
 use fields::parts::joined;
 use fields::parts::low_half;
@@ -77,6 +78,22 @@ pub fn address<S: Store, B: Bus>(
         first_index,
         second_index,
     ))
+}
+
+/// The register so many after another; after 15 comes 0.
+pub fn following(number: u8, by: u8) -> u8
+    ensures { λ r. ⌜ r ≡ following number by ⌝ }
+{
+    (number % 16 + by % 16) % 16
+}
+
+/// Loads a byte: one read, of its halfword.
+pub fn load_byte<S: Store, B: Bus>(m: &mut Core<S, B>, a: ProgramAddress) -> Result<u8, Trap>
+    ensures does { λ r. ⌜ GivesCalmly (S·Store .meaning) (B·Bus .devices) (loadByte (a .at)) (now (m .entry)) r (now (m .exit)) ⌝ }
+    ensures quiet { λ _. ⌜ now (m .exit) .bus ≡ now (m .entry) .bus ⌝ }
+{
+    let half = m.load(a)?;
+    Ok(byte_at(a.is_odd(), half))
 }
 
 /// Loads a fullword, the high half first.
