@@ -17,30 +17,30 @@ module _ (store : Store) (bus reply : Bus) where
   -- A machine with a status, a Location Counter, and the registers 0 to 4 of set 0; the other registers are 0.
   abbrev pub machine : ℕ → ℕ → ℕ → ℕ → ℕ → ℕ → ℕ → State
   machine status location r0 r1 r2 r3 r4 =
-      record
-        { status = status
-        ; location = location
-        ; faults = 0
-        ; pending = false
-        ; registers = r0 ∷ r1 ∷ r2 ∷ r3 ∷ r4 ∷ replicate 27 0
-        ; segments = replicate 16 0
-        ; store = store
-        ; bus = bus
-        }
+      record {
+        status = status;
+        location = location;
+        faults = 0;
+        pending = false;
+        registers = r0 ∷ r1 ∷ r2 ∷ r3 ∷ r4 ∷ replicate 27 0;
+        segments = replicate 16 0;
+        store = store;
+        bus = bus;
+      }
 
   -- A machine with relocation on, and a segmentation register 1.
   abbrev pub relocating : ℕ → State
   relocating g =
-      record
-        { status = 0x400
-        ; location = 0
-        ; faults = 0
-        ; pending = false
-        ; registers = replicate 32 0
-        ; segments = 0 ∷ g ∷ replicate 14 0
-        ; store = store
-        ; bus = bus
-        }
+      record {
+        status = 0x400;
+        location = 0;
+        faults = 0;
+        pending = false;
+        registers = replicate 32 0;
+        segments = 0 ∷ g ∷ replicate 14 0;
+        store = store;
+        bus = bus;
+      }
 
   -- AIS 1,1: X'7FFFFFFF' becomes X'80000000', with code 5.
   abbrev pub Case-1 : Type 0

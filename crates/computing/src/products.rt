@@ -54,7 +54,7 @@ pub fn divide<S: Store, B: Bus>(
 }
 
 /// Multiplies by a fullword of the store.
-pub fn m<S: Store, B: Bus>(
+pub fn multiply_full<S: Store, B: Bus>(
     m: &mut Core<S, B>,
     r1: u8,
     a: ProgramAddress,
@@ -69,7 +69,7 @@ pub fn m<S: Store, B: Bus>(
 }
 
 /// Divides by a fullword of the store.
-pub fn d<S: Store, B: Bus>(
+pub fn divide_full<S: Store, B: Bus>(
     m: &mut Core<S, B>,
     r1: u8,
     a: ProgramAddress,

@@ -3,6 +3,7 @@ ghost use Prim.Native.Nat.{_^_, _<_};
 ghost use lib.ListN.{length};
 ghost use Rattle.std.specs.Options.{Cases as BySome};
 ghost use Rattle.decode.specs.Forms.{formOf, codeField, firstField, secondField, isLong, indexField, sizeOf, sizeAt, Taken, signed15, addressOf};
+ghost use Rattle.decode.specs.Laws.{Forms-hold, Lengths-hold};
 use crate::operations::Form;
 use crate::operations::Operation;
 
@@ -161,3 +162,13 @@ pub fn address_of(own: u32, second: u16, third: u16, index: u32, second_index: u
         (signed_15(second as u32 % 0x8000) + (own % 0x10_0000 + 4) + index % 0x10_0000) % 0x10_0000
     }
 }
+
+/// Every code has one form.
+pub fn forms_hold()
+    ensures { λ _. ⌜ Forms-hold ⌝ }
+{}
+
+/// Every instruction has one length.
+pub fn lengths_hold()
+    ensures { λ _. ⌜ Lengths-hold ⌝ }
+{}

@@ -1,8 +1,8 @@
 ghost use Rattle.processor.specs.View.{Does};
 ghost use Rattle.instructions.specs.Instructions.{withHalfTree, withFullTree, lpswTree, svcTree, memoryTree, addressedTree, memoryBody};
 use bus::meaning::Bus;
-use computing::products::d;
-use computing::products::m as multiply_full;
+use computing::products::divide_full;
+use computing::products::multiply_full;
 use decode::forms::Parts;
 use decode::forms::first_field;
 use decode::forms::take_apart;
@@ -136,7 +136,7 @@ pub fn memory<S: Store, B: Bus>(
         }
         MemoryOp::Am => am(m, r1, a, next),
         MemoryOp::M => multiply_full(m, r1, a, next),
-        MemoryOp::D => d(m, r1, a, next),
+        MemoryOp::D => divide_full(m, r1, a, next),
         MemoryOp::Ahm => ahm(m, r1, a, next),
         MemoryOp::Lhl => lhl(m, r1, a, next),
         MemoryOp::Tbt => tbt(m, r1, a, next),
