@@ -1,3 +1,4 @@
 pub mod Codes
 pub mod Table
 pub mod Forms
+pub mod Laws

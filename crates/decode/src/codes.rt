@@ -1,7 +1,12 @@
 ghost use mathlib.Core.Path.{_≡_};
 ghost use Rattle.decode.specs.Codes.{functionOf, isPrivileged, low, middle, upper, high, permitted};
 ghost use Rattle.decode.specs.Table.{Table-holds, Counts-hold};
-use crate::operations::{Function, ImmediateOp, MemoryOp, Operation, RegisterOp, ShortOp};
+use crate::operations::Function;
+use crate::operations::ImmediateOp;
+use crate::operations::MemoryOp;
+use crate::operations::Operation;
+use crate::operations::RegisterOp;
+use crate::operations::ShortOp;
 
 /// What the second digit of a code stands for, in the families.
 fn function_of(digit: u8) -> Function
@@ -148,5 +153,4 @@ pub fn operation(code: u8, protected: bool) -> Operation
 pub fn table_holds()
     ensures table { λ _. ⌜ Table-holds ⌝ }
     ensures counts { λ _. ⌜ Counts-hold ⌝ }
-{
-}
+{}

@@ -3,7 +3,9 @@ ghost use Prim.Native.Nat.{_^_, _<_};
 ghost use lib.ListN.{length};
 ghost use Rattle.std.specs.Options.{Cases as BySome};
 ghost use Rattle.decode.specs.Forms.{formOf, codeField, firstField, secondField, isLong, indexField, sizeOf, sizeAt, Taken, signed15, addressOf};
-use crate::operations::{Form, Operation};
+ghost use Rattle.decode.specs.Laws.{Forms-hold, Lengths-hold};
+use crate::operations::Form;
+use crate::operations::Operation;
 
 /// The form of an operation.
 pub fn form_of(operation: Operation) -> Form
@@ -63,9 +65,7 @@ pub fn size_of(form: Form, second: u16) -> usize
 {
     match form {
         Form::Single => 1,
-        Form::Indexed => {
-            if is_long(second) { 3 } else { 2 }
-        }
+        Form::Indexed => { if is_long(second) { 3 } else { 2 } }
         Form::Pair => 2,
         Form::Triple => 3,
     }
@@ -84,7 +84,12 @@ fn single<'a>(words: &'a [u16]) -> Option<Parts<'a>>
     ensures { λ r. ⌜ BySome r (length (now (words .entry)) < 1) (λ p. Taken 1 (now (words .entry)) (p .first) (p .second) (p .third) (now (p .rest))) ⌝ }
 {
     match words {
-        [first, rest @ ..] => Some(Parts { first: *first, second: 0, third: 0, rest }),
+        [first, rest @ ..] => Some(Parts {
+            first: *first,
+            second: 0,
+            third: 0,
+            rest,
+        }),
         _ => None,
     }
 }
@@ -93,7 +98,12 @@ fn pair<'a>(words: &'a [u16]) -> Option<Parts<'a>>
     ensures { λ r. ⌜ BySome r (length (now (words .entry)) < 2) (λ p. Taken 2 (now (words .entry)) (p .first) (p .second) (p .third) (now (p .rest))) ⌝ }
 {
     match words {
-        [first, second, rest @ ..] => Some(Parts { first: *first, second: *second, third: 0, rest }),
+        [first, second, rest @ ..] => Some(Parts {
+            first: *first,
+            second: *second,
+            third: 0,
+            rest,
+        }),
         _ => None,
     }
 }
@@ -102,7 +112,12 @@ fn triple<'a>(words: &'a [u16]) -> Option<Parts<'a>>
     ensures { λ r. ⌜ BySome r (length (now (words .entry)) < 3) (λ p. Taken 3 (now (words .entry)) (p .first) (p .second) (p .third) (now (p .rest))) ⌝ }
 {
     match words {
-        [first, second, third, rest @ ..] => Some(Parts { first: *first, second: *second, third: *third, rest }),
+        [first, second, third, rest @ ..] => Some(Parts {
+            first: *first,
+            second: *second,
+            third: *third,
+            rest,
+        }),
         _ => None,
     }
 }
@@ -138,8 +153,22 @@ pub fn address_of(own: u32, second: u16, third: u16, index: u32, second_index: u
     if second < 0x4000 {
         (second as u32 + index % 0x10_0000) % 0x10_0000
     } else if second < 0x8000 {
-        (second as u32 % 256 * 0x1_0000 + third as u32 + index % 0x10_0000 + second_index % 0x10_0000) % 0x10_0000
+        (second as u32 % 256 * 0x1_0000
+            + third as u32
+            + index % 0x10_0000
+            + second_index % 0x10_0000)
+            % 0x10_0000
     } else {
         (signed_15(second as u32 % 0x8000) + (own % 0x10_0000 + 4) + index % 0x10_0000) % 0x10_0000
     }
 }
+
+/// Every code has one form.
+pub fn forms_hold()
+    ensures { λ _. ⌜ Forms-hold ⌝ }
+{}
+
+/// Every instruction has one length.
+pub fn lengths_hold()
+    ensures { λ _. ⌜ Lengths-hold ⌝ }
+{}

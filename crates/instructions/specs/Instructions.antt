@@ -1,12 +1,11 @@
 -- What each instruction does, as a tree of effects.
 use mathlib.Core.Bool.{Bool, true, false, cond}
 use Prim.Native.Nat.{ℕ, _+_, _-_, _*_, _^_}
-use Rattle.model.specs.declared.Trap.the-variants.{Illegal as unlawful, Arithmetic, Supervisor}
+use Rattle.model.specs.declared.Trap.the-variants.{Illegal as unlawful, Supervisor}
 use Rattle.model.specs.Status.{address, toHalf, toFull, toPsw}
-use Rattle.model.specs.Effects.{Prog, ret, stop, privileged, reg, setReg, getCode, setCode, getLocation, jump, fetch, load, store, setStatus, seq}
-use Rattle.processor.specs.Writes.{put}
-use Rattle.words.specs.Sums.{marks, sum, difference, extended}
-use Rattle.fields.specs.Parts.{joined, lowHalf}
+use Rattle.model.specs.Effects.{Prog, stop, privileged, reg, setReg, getLocation, jump, fetch, load, getStatus, setStatus, seq}
+use Rattle.words.specs.Sums.{sum, difference, extended}
+use Rattle.fields.specs.Parts.{joined}
 use Rattle.decode.specs.declared.operations.Function.{Function}
 use Rattle.decode.specs.declared.operations.Function.the-variants.{And, CompareLogical, Or, ExclusiveOr, Load, Compare, Add, Subtract, Test}
 use Rattle.decode.specs.declared.operations.RegisterOp.{RegisterOp}
@@ -21,38 +20,47 @@ use Rattle.decode.specs.declared.operations.Operation.{Operation}
 use Rattle.decode.specs.declared.operations.Operation.the-variants.{Register, Short, Memory, Immediate, LongImmediate, Illegal}
 use Rattle.decode.specs.Codes.{isPrivileged, operationOf}
 use Rattle.decode.specs.Forms.{codeField, firstField, secondField}
-use Rattle.operands.specs.Operands.{indexTree, thirdTree, nextOf, addressTree, loadFull, storeFull, resultTree, applyTree, branchTrue, branchFalse}
-
--- One after the other, the first one's number not used.
-abbrev pub then : Prog → Prog → Prog
-then p q = seq p (λ _. q)
+use Rattle.operands.specs.Operands.{then, following, indexTree, thirdTree, nextOf, addressTree, loadFull, applyTree, branchTrue, branchFalse}
+use Rattle.computing.specs.Computing.{srlTree, sllTree, sraTree, slaTree, rrlTree, rllTree, multiplyTree, divideTree, mTree, dTree}
+use Rattle.transfers.specs.Transfers.{exhrTree, exbrTree, lbrTree, stbrTree, sthTree, stTree, lhlTree, lbTree, stbTree, clbTree, amTree, ahmTree, tsTree, tbtTree, sbtTree, rbtTree, cbtTree, bxhTree, bxleTree}
+use Rattle.multiples.specs.Multiples.{lmTree, stmTree}
+use Rattle.devices.specs.Devices.{wdrTree, ocrTree, rdrTree, ssrTree, wdTree, ocTree, rdTree, ssTree}
 
 -- ── RR: registers r1 and r2; the instruction stands at own ──
 abbrev pub balrTree : ℕ → ℕ → ℕ → Prog
 balrTree own r1 r2 = seq (reg r2) (λ t. then (setReg r1 (address (own + 2))) (jump (address t)))
+
+-- The two registers are those of the set in use before; after register 15 comes 0.
+abbrev pub lpswrTree : ℕ → Prog
+lpswrTree r2 = seq (reg r2) (λ status. seq (reg (following r2 1)) (λ location. then (setStatus status) (jump (address location))))
+
+-- r1 takes the status before r2 is read, so that equal ones leave the status.
+abbrev pub epsrTree : ℕ → ℕ → ℕ → Prog
+epsrTree own r1 r2 =
+    seq getStatus (λ old. then (setReg r1 old) (seq (reg r2) (λ new. then (setStatus new) (jump (address (own + 2))))))
 
 abbrev pub registerTree : RegisterOp → ℕ → ℕ → ℕ → Prog
 registerTree Balr own r1 r2 = balrTree own r1 r2
 registerTree Btcr own r1 r2 = seq (reg r2) (λ t. branchTrue r1 (address t) (address (own + 2)))
 registerTree Bfcr own r1 r2 = seq (reg r2) (λ t. branchFalse r1 (address t) (address (own + 2)))
 registerTree (WithRegister f) own r1 r2 = seq (reg r2) (λ y. then (applyTree f r1 y) (jump (address (own + 2))))
-registerTree Lpswr own r1 r2 = stop unlawful
-registerTree Mr own r1 r2 = stop unlawful
-registerTree Dr own r1 r2 = stop unlawful
-registerTree Exhr own r1 r2 = stop unlawful
-registerTree Stbr own r1 r2 = stop unlawful
-registerTree Lbr own r1 r2 = stop unlawful
-registerTree Exbr own r1 r2 = stop unlawful
-registerTree Epsr own r1 r2 = stop unlawful
-registerTree Wdr own r1 r2 = stop unlawful
-registerTree Rdr own r1 r2 = stop unlawful
-registerTree Ssr own r1 r2 = stop unlawful
-registerTree Ocr own r1 r2 = stop unlawful
+registerTree Lpswr own r1 r2 = lpswrTree r2
+registerTree Mr own r1 r2 = seq (reg r2) (λ y. then (multiplyTree r1 y) (jump (address (own + 2))))
+registerTree Dr own r1 r2 = seq (reg r2) (λ y. divideTree r1 y (address (own + 2)))
+registerTree Exhr own r1 r2 = then (exhrTree r1 r2) (jump (address (own + 2)))
+registerTree Stbr own r1 r2 = then (stbrTree r1 r2) (jump (address (own + 2)))
+registerTree Lbr own r1 r2 = then (lbrTree r1 r2) (jump (address (own + 2)))
+registerTree Exbr own r1 r2 = then (exbrTree r1 r2) (jump (address (own + 2)))
+registerTree Epsr own r1 r2 = epsrTree own r1 r2
+registerTree Wdr own r1 r2 = wdrTree r1 r2 (address (own + 2))
+registerTree Rdr own r1 r2 = rdrTree r1 r2 (address (own + 2))
+registerTree Ssr own r1 r2 = ssrTree r1 r2 (address (own + 2))
+registerTree Ocr own r1 r2 = ocrTree r1 r2 (address (own + 2))
 
 -- ── SF: register r1 and the number n ──
 abbrev pub shortTree : ShortOp → ℕ → ℕ → ℕ → Prog
-shortTree Srls own r1 n = stop unlawful
-shortTree Slls own r1 n = stop unlawful
+shortTree Srls own r1 n = then (srlTree r1 n) (jump (address (own + 2)))
+shortTree Slls own r1 n = then (sllTree r1 n) (jump (address (own + 2)))
 shortTree Btbs own r1 n = branchTrue r1 (address (own + (2 ^ 20 - 2 * n))) (address (own + 2))
 shortTree Btfs own r1 n = branchTrue r1 (address (own + 2 * n)) (address (own + 2))
 shortTree Bfbs own r1 n = branchFalse r1 (address (own + (2 ^ 20 - 2 * n))) (address (own + 2))
@@ -63,12 +71,6 @@ shortTree Ais own r1 n = then (applyTree Add r1 n) (jump (address (own + 2)))
 shortTree Sis own r1 n = then (applyTree Subtract r1 n) (jump (address (own + 2)))
 
 -- ── RX: register r1 and the address a; next is the address of the next instruction ──
-abbrev pub sthTree : ℕ → ℕ → ℕ → Prog
-sthTree r1 a next = seq (reg r1) (λ v. then (store (toHalf a) (put (lowHalf v))) (jump next))
-
-abbrev pub stTree : ℕ → ℕ → ℕ → Prog
-stTree r1 a next = seq (reg r1) (λ v. then (storeFull (toFull a) v) (jump next))
-
 abbrev pub withHalfTree : Function → ℕ → ℕ → ℕ → Prog
 withHalfTree f r1 a next = seq (load (toHalf a)) (λ h. then (applyTree f r1 (extended h)) (jump next))
 
@@ -91,49 +93,49 @@ memoryTree Btc r1 a next = branchTrue r1 a next
 memoryTree Bfc r1 a next = branchFalse r1 a next
 memoryTree (WithHalf f) r1 a next = withHalfTree f r1 a next
 memoryTree St r1 a next = stTree r1 a next
-memoryTree Am r1 a next = stop unlawful
+memoryTree Am r1 a next = amTree r1 a next
 memoryTree (WithFull f) r1 a next = withFullTree f r1 a next
-memoryTree M r1 a next = stop unlawful
-memoryTree D r1 a next = stop unlawful
-memoryTree Ahm r1 a next = stop unlawful
-memoryTree Lhl r1 a next = stop unlawful
-memoryTree Tbt r1 a next = stop unlawful
-memoryTree Sbt r1 a next = stop unlawful
-memoryTree Rbt r1 a next = stop unlawful
-memoryTree Cbt r1 a next = stop unlawful
-memoryTree Bxh r1 a next = stop unlawful
-memoryTree Bxle r1 a next = stop unlawful
+memoryTree M r1 a next = mTree r1 a next
+memoryTree D r1 a next = dTree r1 a next
+memoryTree Ahm r1 a next = ahmTree r1 a next
+memoryTree Lhl r1 a next = lhlTree r1 a next
+memoryTree Tbt r1 a next = tbtTree r1 a next
+memoryTree Sbt r1 a next = sbtTree r1 a next
+memoryTree Rbt r1 a next = rbtTree r1 a next
+memoryTree Cbt r1 a next = cbtTree r1 a next
+memoryTree Bxh r1 a next = bxhTree r1 a next
+memoryTree Bxle r1 a next = bxleTree r1 a next
 memoryTree Lpsw r1 a next = lpswTree a
-memoryTree Stm r1 a next = stop unlawful
-memoryTree Lm r1 a next = stop unlawful
-memoryTree Stb r1 a next = stop unlawful
-memoryTree Lb r1 a next = stop unlawful
-memoryTree Clb r1 a next = stop unlawful
-memoryTree Wd r1 a next = stop unlawful
-memoryTree Rd r1 a next = stop unlawful
-memoryTree Ss r1 a next = stop unlawful
-memoryTree Oc r1 a next = stop unlawful
-memoryTree Ts r1 a next = stop unlawful
+memoryTree Stm r1 a next = stmTree r1 a next
+memoryTree Lm r1 a next = lmTree r1 a next
+memoryTree Stb r1 a next = stbTree r1 a next
+memoryTree Lb r1 a next = lbTree r1 a next
+memoryTree Clb r1 a next = clbTree r1 a next
+memoryTree Wd r1 a next = wdTree r1 a next
+memoryTree Rd r1 a next = rdTree r1 a next
+memoryTree Ss r1 a next = ssTree r1 a next
+memoryTree Oc r1 a next = ocTree r1 a next
+memoryTree Ts r1 a next = tsTree a next
 memoryTree Svc r1 a next = svcTree r1 a next
 memoryTree La r1 a next = then (setReg r1 a) (jump next)
 
 -- ── RI1: register r1 and the operand y ──
 abbrev pub immediateTree : ImmediateOp → ℕ → ℕ → Prog
 immediateTree (WithImmediate f) r1 y = applyTree f r1 y
-immediateTree Rrl r1 y = stop unlawful
-immediateTree Rll r1 y = stop unlawful
-immediateTree Srl r1 y = stop unlawful
-immediateTree Sll r1 y = stop unlawful
-immediateTree Sra r1 y = stop unlawful
-immediateTree Sla r1 y = stop unlawful
+immediateTree Rrl r1 y = rrlTree r1 y
+immediateTree Rll r1 y = rllTree r1 y
+immediateTree Srl r1 y = srlTree r1 y
+immediateTree Sll r1 y = sllTree r1 y
+immediateTree Sra r1 y = sraTree r1 y
+immediateTree Sla r1 y = slaTree r1 y
 
 -- ── By the form: h is the first halfword, of the instruction at own ──
+-- w and x are the second halfword and the third.
+unfoldable pub addressedTree : MemoryOp → ℕ → ℕ → ℕ → ℕ → Prog
+addressedTree o own h w x = seq (addressTree own h w x) (λ a. memoryTree o (firstField h) a (nextOf own w))
+
 unfoldable pub memoryBody : MemoryOp → ℕ → ℕ → Prog
-memoryBody o own h =
-    seq (fetch (address (own + 2))) (λ w.
-    seq (thirdTree own w) (λ x.
-    seq (addressTree own h w x) (λ a.
-    memoryTree o (firstField h) a (nextOf own w))))
+memoryBody o own h = seq (fetch (address (own + 2))) (λ w. seq (thirdTree own w) (λ x. addressedTree o own h w x))
 
 -- The operand is the second halfword, sign-extended, plus the index.
 unfoldable pub immediateBody : ImmediateOp → ℕ → ℕ → Prog

@@ -1,11 +1,15 @@
 ghost use Rattle.processor.specs.View.{Does};
 ghost use Rattle.instructions.specs.Instructions.{bodyOf, instruction};
-use crate::immediates::{immediate_body, long_body};
+use crate::immediates::immediate_body;
+use crate::immediates::long_body;
 use crate::memory::memory_body;
-use crate::registers_only::{register, short};
+use crate::registers_only::register;
+use crate::registers_only::short;
 use bus::meaning::Bus;
 use decode::codes::operation;
-use decode::forms::{code_field, first_field, second_field};
+use decode::forms::code_field;
+use decode::forms::first_field;
+use decode::forms::second_field;
 use decode::operations::Operation;
 use model::Trap;
 use processor::core::Core;
@@ -13,7 +17,12 @@ use registers::words::ProgramAddress;
 use store::meaning::Store;
 
 /// Does an operation, by its form.
-fn body<S: Store, B: Bus>(m: &mut Core<S, B>, operation: Operation, own: ProgramAddress, first: u16) -> Result<(), Trap>
+fn body<S: Store, B: Bus>(
+    m: &mut Core<S, B>,
+    operation: Operation,
+    own: ProgramAddress,
+    first: u16,
+) -> Result<(), Trap>
     ensures { λ r. ⌜ Does (S·Store .meaning) (B·Bus .devices) (bodyOf operation (own .at) first) (now (m .entry)) r (now (m .exit)) ⌝ }
 {
     match operation {

@@ -1,5 +1,5 @@
 //! The instructions, by their forms.
+pub mod execute;
 pub mod immediates;
 pub mod memory;
 pub mod registers_only;
-pub mod execute;

@@ -1,40 +1,56 @@
 ghost use Rattle.processor.specs.View.{Does};
-ghost use Rattle.instructions.specs.Instructions.{sthTree, stTree, withHalfTree, withFullTree, lpswTree, svcTree, memoryTree, memoryBody};
+ghost use Rattle.instructions.specs.Instructions.{withHalfTree, withFullTree, lpswTree, svcTree, memoryTree, addressedTree, memoryBody};
 use bus::meaning::Bus;
-use decode::forms::{Parts, first_field, take_apart};
-use decode::operations::{Form, Function, MemoryOp};
-use fields::parts::low_half;
+use computing::products::divide_full;
+use computing::products::multiply_full;
+use decode::forms::Parts;
+use decode::forms::first_field;
+use decode::forms::take_apart;
+use decode::operations::Form;
+use decode::operations::Function;
+use decode::operations::MemoryOp;
+use devices::bytes::oc;
+use devices::bytes::rd;
+use devices::bytes::ss;
+use devices::bytes::wd;
 use model::Trap;
-use operands::addresses::{address, load_full, next, store_full, third};
-use operands::branches::{branch_false, branch_true};
+use multiples::lm;
+use multiples::stm;
+use operands::addresses::address;
+use operands::addresses::load_full;
+use operands::addresses::next;
+use operands::addresses::third;
+use operands::branches::branch_false;
+use operands::branches::branch_true;
 use operands::functions::apply;
 use processor::core::Core;
 use registers::words::ProgramAddress;
 use store::meaning::Store;
+use transfers::bits::cbt;
+use transfers::bits::rbt;
+use transfers::bits::sbt;
+use transfers::bits::tbt;
+use transfers::loops::bxh;
+use transfers::loops::bxle;
+use transfers::moves::clb;
+use transfers::moves::lb;
+use transfers::moves::lhl;
+use transfers::moves::st;
+use transfers::moves::stb;
+use transfers::moves::sth;
+use transfers::updates::ahm;
+use transfers::updates::am;
+use transfers::updates::ts;
 use words::sums::extended;
 
-/// Stores the low half of a register.
-fn sth<S: Store, B: Bus>(m: &mut Core<S, B>, r1: u8, a: ProgramAddress, next: ProgramAddress) -> Result<(), Trap>
-    ensures { λ r. ⌜ Does (S·Store .meaning) (B·Bus .devices) (sthTree r1 (a .at) (next .at)) (now (m .entry)) r (now (m .exit)) ⌝ }
-{
-    let value = m.reg(r1);
-    m.store(a.to_half(), low_half(value))?;
-    m.jump(next);
-    Ok(())
-}
-
-/// Stores a register.
-fn st<S: Store, B: Bus>(m: &mut Core<S, B>, r1: u8, a: ProgramAddress, next: ProgramAddress) -> Result<(), Trap>
-    ensures { λ r. ⌜ Does (S·Store .meaning) (B·Bus .devices) (stTree r1 (a .at) (next .at)) (now (m .entry)) r (now (m .exit)) ⌝ }
-{
-    let value = m.reg(r1);
-    store_full(m, a.to_full(), value)?;
-    m.jump(next);
-    Ok(())
-}
-
 /// Applies a function to a register and a halfword of the store.
-fn with_half<S: Store, B: Bus>(m: &mut Core<S, B>, function: Function, r1: u8, a: ProgramAddress, next: ProgramAddress) -> Result<(), Trap>
+fn with_half<S: Store, B: Bus>(
+    m: &mut Core<S, B>,
+    function: Function,
+    r1: u8,
+    a: ProgramAddress,
+    next: ProgramAddress,
+) -> Result<(), Trap>
     ensures { λ r. ⌜ Does (S·Store .meaning) (B·Bus .devices) (withHalfTree function r1 (a .at) (next .at)) (now (m .entry)) r (now (m .exit)) ⌝ }
 {
     let half = m.load(a.to_half())?;
@@ -44,7 +60,13 @@ fn with_half<S: Store, B: Bus>(m: &mut Core<S, B>, function: Function, r1: u8, a
 }
 
 /// Applies a function to a register and a fullword of the store.
-fn with_full<S: Store, B: Bus>(m: &mut Core<S, B>, function: Function, r1: u8, a: ProgramAddress, next: ProgramAddress) -> Result<(), Trap>
+fn with_full<S: Store, B: Bus>(
+    m: &mut Core<S, B>,
+    function: Function,
+    r1: u8,
+    a: ProgramAddress,
+    next: ProgramAddress,
+) -> Result<(), Trap>
     ensures { λ r. ⌜ Does (S·Store .meaning) (B·Bus .devices) (withFullTree function r1 (a .at) (next .at)) (now (m .entry)) r (now (m .exit)) ⌝ }
 {
     let y = load_full(m, a.to_full())?;
@@ -65,7 +87,12 @@ fn lpsw<S: Store, B: Bus>(m: &mut Core<S, B>, a: ProgramAddress) -> Result<(), T
 }
 
 /// Calls the supervisor.
-fn svc<S: Store, B: Bus>(m: &mut Core<S, B>, r1: u8, a: ProgramAddress, next: ProgramAddress) -> Result<(), Trap>
+fn svc<S: Store, B: Bus>(
+    m: &mut Core<S, B>,
+    r1: u8,
+    a: ProgramAddress,
+    next: ProgramAddress,
+) -> Result<(), Trap>
     ensures { λ r. ⌜ Does (S·Store .meaning) (B·Bus .devices) (svcTree r1 (a .at) (next .at)) (now (m .entry)) r (now (m .exit)) ⌝ }
 {
     m.jump(next);
@@ -73,7 +100,13 @@ fn svc<S: Store, B: Bus>(m: &mut Core<S, B>, r1: u8, a: ProgramAddress, next: Pr
 }
 
 /// An operation with an address.
-pub fn memory<S: Store, B: Bus>(m: &mut Core<S, B>, operation: MemoryOp, r1: u8, a: ProgramAddress, next: ProgramAddress) -> Result<(), Trap>
+pub fn memory<S: Store, B: Bus>(
+    m: &mut Core<S, B>,
+    operation: MemoryOp,
+    r1: u8,
+    a: ProgramAddress,
+    next: ProgramAddress,
+) -> Result<(), Trap>
     ensures { λ r. ⌜ Does (S·Store .meaning) (B·Bus .devices) (memoryTree operation r1 (a .at) (next .at)) (now (m .entry)) r (now (m .exit)) ⌝ }
 {
     match operation {
@@ -101,36 +134,69 @@ pub fn memory<S: Store, B: Bus>(m: &mut Core<S, B>, operation: MemoryOp, r1: u8,
             m.jump(next);
             Ok(())
         }
-        MemoryOp::Am => Err(Trap::Illegal),
-        MemoryOp::M => Err(Trap::Illegal),
-        MemoryOp::D => Err(Trap::Illegal),
-        MemoryOp::Ahm => Err(Trap::Illegal),
-        MemoryOp::Lhl => Err(Trap::Illegal),
-        MemoryOp::Tbt => Err(Trap::Illegal),
-        MemoryOp::Sbt => Err(Trap::Illegal),
-        MemoryOp::Rbt => Err(Trap::Illegal),
-        MemoryOp::Cbt => Err(Trap::Illegal),
-        MemoryOp::Bxh => Err(Trap::Illegal),
-        MemoryOp::Bxle => Err(Trap::Illegal),
-        MemoryOp::Stm => Err(Trap::Illegal),
-        MemoryOp::Lm => Err(Trap::Illegal),
-        MemoryOp::Stb => Err(Trap::Illegal),
-        MemoryOp::Lb => Err(Trap::Illegal),
-        MemoryOp::Clb => Err(Trap::Illegal),
-        MemoryOp::Wd => Err(Trap::Illegal),
-        MemoryOp::Rd => Err(Trap::Illegal),
-        MemoryOp::Ss => Err(Trap::Illegal),
-        MemoryOp::Oc => Err(Trap::Illegal),
-        MemoryOp::Ts => Err(Trap::Illegal),
+        MemoryOp::Am => am(m, r1, a, next),
+        MemoryOp::M => multiply_full(m, r1, a, next),
+        MemoryOp::D => divide_full(m, r1, a, next),
+        MemoryOp::Ahm => ahm(m, r1, a, next),
+        MemoryOp::Lhl => lhl(m, r1, a, next),
+        MemoryOp::Tbt => tbt(m, r1, a, next),
+        MemoryOp::Sbt => sbt(m, r1, a, next),
+        MemoryOp::Rbt => rbt(m, r1, a, next),
+        MemoryOp::Cbt => cbt(m, r1, a, next),
+        MemoryOp::Bxh => {
+            bxh(m, r1, a, next);
+            Ok(())
+        }
+        MemoryOp::Bxle => {
+            bxle(m, r1, a, next);
+            Ok(())
+        }
+        MemoryOp::Stm => stm(m, r1, a, next),
+        MemoryOp::Lm => lm(m, r1, a, next),
+        MemoryOp::Stb => stb(m, r1, a, next),
+        MemoryOp::Lb => lb(m, r1, a, next),
+        MemoryOp::Clb => clb(m, r1, a, next),
+        MemoryOp::Wd => wd(m, r1, a, next),
+        MemoryOp::Rd => rd(m, r1, a, next),
+        MemoryOp::Ss => ss(m, r1, a, next),
+        MemoryOp::Oc => oc(m, r1, a, next),
+        MemoryOp::Ts => ts(m, a, next),
     }
 }
 
+/// Does an instruction with an address that was taken apart.
+fn addressed<S: Store, B: Bus>(
+    m: &mut Core<S, B>,
+    operation: MemoryOp,
+    own: ProgramAddress,
+    parts: Parts<'_>,
+) -> Result<(), Trap>
+    ensures { λ r. ⌜ Does (S·Store .meaning) (B·Bus .devices) (addressedTree operation (own .at) (parts .entry .first) (parts .entry .second) (parts .entry .third)) (now (m .entry)) r (now (m .exit)) ⌝ }
+{
+    let a = address(m, own, parts);
+    memory(
+        m,
+        operation,
+        first_field(parts.first),
+        a,
+        next(own, parts.second),
+    )
+}
+
 /// Fetches the rest of an instruction with an address, and does it.
-pub fn memory_body<S: Store, B: Bus>(m: &mut Core<S, B>, operation: MemoryOp, own: ProgramAddress, first: u16) -> Result<(), Trap>
+pub fn memory_body<S: Store, B: Bus>(
+    m: &mut Core<S, B>,
+    operation: MemoryOp,
+    own: ProgramAddress,
+    first: u16,
+) -> Result<(), Trap>
     ensures { λ r. ⌜ Does (S·Store .meaning) (B·Bus .devices) (memoryBody operation (own .at) first) (now (m .entry)) r (now (m .exit)) ⌝ }
 {
     let second = m.fetch(own.plus(2))?;
     let third = third(m, own, second)?;
-    let a = address(m, own, Parts { first, second, third, rest: &[] });
-    memory(m, operation, first_field(first), a, next(own, second))
+    let words = [first, second, third];
+    match take_apart(Form::Indexed, &words) {
+        Some(parts) => addressed(m, operation, own, parts),
+        None => Err(Trap::Illegal),
+    }
 }

@@ -1,16 +1,21 @@
 -- What instructions share: indexes and addresses, fullwords in the store, the functions of the families, and branches.
 use mathlib.Core.Bool.{Bool, true, false, cond}
-use Prim.Native.Nat.{ℕ, _+_}
+use Prim.Native.Nat.{ℕ, _+_, _%_}
 use lib.Dec.{eqb}
 use lib.Bits.{bitAnd, bitOr, bitXor}
 use Rattle.model.specs.Status.{address}
 use Rattle.model.specs.Effects.{Prog, ret, reg, setReg, getCode, setCode, jump, fetch, load, store, seq}
+use Rattle.registers.specs.Parity.{isOdd}
 use Rattle.processor.specs.Writes.{put}
 use Rattle.words.specs.Sums.{marks, sum, sumCode, difference, differenceCode, compareCode, compareLogicalCode}
-use Rattle.fields.specs.Parts.{joined, highHalf, lowHalf}
+use Rattle.fields.specs.Parts.{joined, highHalf, lowHalf, byteAt}
 use Rattle.decode.specs.declared.operations.Function.{Function}
 use Rattle.decode.specs.declared.operations.Function.the-variants.{And, CompareLogical, Or, ExclusiveOr, Load, Compare, Add, Subtract, Test}
 use Rattle.decode.specs.Forms.{secondField, isLong, indexField, addressOf}
+
+-- One after the other, the first one's number not used.
+abbrev pub then : Prog → Prog → Prog
+then p q = seq p (λ _. q)
 
 -- ── Addresses ──
 -- Register 0 as an index counts 0.
@@ -30,17 +35,25 @@ unfoldable pub addressTree : ℕ → ℕ → ℕ → ℕ → Prog
 addressTree own h w x =
     seq (indexTree (secondField h)) (λ i. seq (indexTree (cond (isLong w) (indexField w) 0)) (λ j. ret (addressOf own w x i j)))
 
--- ── Fullwords, the high half first ──
+-- ── Register numbers ──
+-- The register k after register n; after 15 comes 0.
+unfoldable pub following : ℕ → ℕ → ℕ
+following n k = (n + k) % 16
+
+-- ── Bytes, and fullwords, the high half first ──
+unfoldable pub loadByte : ℕ → Prog
+loadByte a = seq (load a) (λ h. ret (byteAt (isOdd a) h))
+
 unfoldable pub loadFull : ℕ → Prog
 loadFull a = seq (load a) (λ high. seq (load (address (a + 2))) (λ low. ret (joined high low)))
 
 unfoldable pub storeFull : ℕ → ℕ → Prog
-storeFull a v = seq (store a (put (highHalf v))) (λ _. store (address (a + 2)) (put (lowHalf v)))
+storeFull a v = then (store a (put (highHalf v))) (store (address (a + 2)) (put (lowHalf v)))
 
 -- ── The functions, of register r and the operand y ──
 -- A result that goes to the register, with its marks.
 abbrev pub resultTree : ℕ → ℕ → Prog
-resultTree r v = seq (setReg r v) (λ _. setCode (marks v))
+resultTree r v = then (setReg r v) (setCode (marks v))
 
 abbrev pub applyTree : Function → ℕ → ℕ → Prog
 applyTree And r y = seq (reg r) (λ x. resultTree r (bitAnd x y))
@@ -49,8 +62,8 @@ applyTree Or r y = seq (reg r) (λ x. resultTree r (bitOr x y))
 applyTree ExclusiveOr r y = seq (reg r) (λ x. resultTree r (bitXor x y))
 applyTree Load r y = resultTree r y
 applyTree Compare r y = seq (reg r) (λ x. setCode (compareCode x y))
-applyTree Add r y = seq (reg r) (λ x. seq (setReg r (sum x y)) (λ _. setCode (sumCode x y)))
-applyTree Subtract r y = seq (reg r) (λ x. seq (setReg r (difference x y)) (λ _. setCode (differenceCode x y)))
+applyTree Add r y = seq (reg r) (λ x. then (setReg r (sum x y)) (setCode (sumCode x y)))
+applyTree Subtract r y = seq (reg r) (λ x. then (setReg r (difference x y)) (setCode (differenceCode x y)))
 applyTree Test r y = seq (reg r) (λ x. setCode (marks (bitAnd x y)))
 
 -- ── Branches: to the target if a bit of the mask is in the condition code, or if none is ──

@@ -5,7 +5,13 @@ use bus::meaning::Bus;
 use decode::operations::Function;
 use processor::core::Core;
 use store::meaning::Store;
-use words::sums::{compare_code, compare_logical_code, difference, difference_code, marks, sum, sum_code};
+use words::sums::compare_code;
+use words::sums::compare_logical_code;
+use words::sums::difference;
+use words::sums::difference_code;
+use words::sums::marks;
+use words::sums::sum;
+use words::sums::sum_code;
 
 /// A result that goes to a register, with its marks.
 pub fn result<S: Store, B: Bus>(m: &mut Core<S, B>, r1: u8, value: u32)

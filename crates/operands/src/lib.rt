@@ -2,3 +2,4 @@
 pub mod addresses;
 pub mod branches;
 pub mod functions;
+pub mod laws;

@@ -10,6 +10,6 @@ pub returns-in-Break-immediate : need.returns-in-Break-immediate
 unfolding immediateBody
 returns-in-Break-immediate g c = search needs
 
-pub returns : need.returns
+pub returns-in-Continue-immediate : need.returns-in-Continue-immediate
 unfolding immediateBody
-returns g c = search needs
+returns-in-Continue-immediate g c = search needs

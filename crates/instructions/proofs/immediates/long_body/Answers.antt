@@ -10,6 +10,6 @@ pub returns-in-Break-third : need.returns-in-Break-third
 unfolding longBody
 returns-in-Break-third g c = search needs
 
-pub returns : need.returns
+pub returns-in-Some : need.returns-in-Some
 unfolding longBody
-returns g c = search needs
+returns-in-Some g c = search needs

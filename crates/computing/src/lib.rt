@@ -1,0 +1,3 @@
+//! Shifts, products and quotients in the registers.
+pub mod products;
+pub mod turns;

@@ -1,0 +1,4 @@
+//! Input and output.
+pub mod bytes;
+pub mod named;
+pub mod words;

@@ -1,0 +1,13 @@
+use Prim.Native.Nat.{_-_}
+use mathlib.Core.Path.{_≡_}
+use Rattle.model.specs.Buses.{Bus}
+use Rattle.model.specs.Effects.{run}
+use Rattle.processor.specs.View.{stateOf}
+use Rattle.multiples.specs.Multiples.{loads}
+use Rattle.multiples.proofs.load_registers.Given as given
+
+-- What is left to do is what was to be done.
+abbrev pub Inv-loop-n : given.InvT-loop-n
+Inv-loop-n g l =
+    (l .m .bus ≡ l .entry .m .bus)
+    × ((reply : Bus) → run reply (loads (16 - l .n) (l .n) (l .a .at)) (stateOf (g .S·Store .meaning) (g .B·Bus .devices) (l .m)) ≡ run reply (loads (16 - l .r1) (l .r1) (l .entry .a .at)) (stateOf (g .S·Store .meaning) (g .B·Bus .devices) (l .entry .m)))
