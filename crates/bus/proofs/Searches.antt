@@ -42,3 +42,9 @@ lowest-found b d le lt quiet asks = found b 255 1 d le (omega arith) quiet asks
 pub lowest-missing : (b : Bus) → ((j : ℕ) → 1 ≤ j → j < 256 → b j .requests ≡ false) → lowest b ≡ None
 unfolding lowest
 lowest-missing b quiet = missing b 255 1 (λ j l m. quiet j l (omega arith))
+
+-- the same, where the last device was asked by itself
+pub lowest-none-last : (b : Bus) (k : ℕ) → k ≡ 255 → ((j : ℕ) → 1 ≤ j → j < k → b j .requests ≡ false) → false ≡ b k .requests → lowest b ≡ None
+lowest-none-last b k last quiet asked =
+    lowest-missing b
+    (λ j l m. ⊎-elim (λ before. quiet j l before) (λ rest. let e : j ≡ k = omega arith in rw e (sym asked)) (cases-lt j k))

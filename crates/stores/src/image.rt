@@ -1,0 +1,67 @@
+ghost use mathlib.Core.Path.{_≡_};
+ghost use mathlib.Core.List.{[], _∷_};
+ghost use denote.Ref.{now, name};
+ghost use Rattle.stores.specs.Layers.{imagePlaces, byteImage};
+use model::Kind;
+use store::boards::LIMIT;
+use store::meaning::Store;
+
+/// A byte image over lent bytes: two bytes are a halfword, the high one first.
+#[derive(Drop)]
+pub struct ByteImage<'a> {
+    bytes: &'a mut [u8],
+}
+
+impl<'a> ByteImage<'a> {
+    /// An image over the bytes, of which a last odd one and those past the limit are not used.
+    pub fn new(bytes: &'a mut [u8]) -> ByteImage<'a>
+        ensures holds { λ r. ⌜ now (r .bytes) ≡ now (bytes .entry) ⌝ }
+        ensures lent { λ r. ⌜ name (r .bytes) ≡ name (bytes .entry) ⌝ }
+    {
+        ByteImage { bytes }
+    }
+
+    /// The bytes as they are now.
+    pub fn into_bytes(self) -> &'a mut [u8]
+        ensures holds { λ r. ⌜ now r ≡ now (self .entry .bytes) ⌝ }
+        ensures lent { λ r. ⌜ name r ≡ name (self .entry .bytes) ⌝ }
+    {
+        let ByteImage { bytes } = self;
+        bytes
+    }
+
+    fn places(&self) -> usize
+        ensures { λ r. ⌜ r ≡ imagePlaces (now (now (self .entry) .bytes)) ⌝ }
+    {
+        (self.bytes.len() / 2).min(LIMIT)
+    }
+}
+
+pub impl Store for ByteImage<'_> as ByteImageStore {
+    ghost meaning = { λ s. byteImage (now (s .bytes)) };
+
+    ghost loans = { λ s. name (s .bytes) ∷ [] };
+
+    fn fitted(&self) -> usize {
+        self.places()
+    }
+
+    fn kind(&self, place: usize) -> Kind {
+        if place < self.places() { Kind::Writable } else { Kind::Unfitted }
+    }
+
+    fn read(&self, place: usize) -> u16 {
+        if place < self.places() {
+            self.bytes[2 * place] as u16 * 256 + self.bytes[2 * place + 1] as u16
+        } else {
+            0
+        }
+    }
+
+    fn write(&mut self, place: usize, word: u16) {
+        if place < self.places() {
+            self.bytes[2 * place] = (word / 256) as u8;
+            self.bytes[2 * place + 1] = (word % 256) as u8;
+        }
+    }
+}

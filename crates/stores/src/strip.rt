@@ -1,0 +1,61 @@
+ghost use mathlib.Core.Path.{_≡_};
+ghost use Rattle.stores.specs.Layers.{inStrip, stripped};
+use model::Kind;
+use store::meaning::Store;
+
+/// A store whose fitted places among 40 to 63 are a loader strip: fixed halfwords that hide those below.
+#[derive(Drop)]
+pub struct LoaderStrip<S> {
+    below: S,
+    strip: [u16; 24],
+}
+
+impl<S> LoaderStrip<S> {
+    /// The store under a strip of the halfwords.
+    pub fn new(below: S, strip: [u16; 24]) -> LoaderStrip<S>
+        ensures over { λ r. ⌜ r .below ≡ below ⌝ }
+        ensures holds { λ r. ⌜ r .strip ≡ strip ⌝ }
+    {
+        LoaderStrip { below, strip }
+    }
+
+    /// The store below as it is now.
+    pub fn into_below(self) -> S
+        ensures { λ r. ⌜ r ≡ self .below ⌝ }
+    {
+        let LoaderStrip { below, strip: _ } = self;
+        below
+    }
+}
+
+impl<S: Store> LoaderStrip<S> {
+    fn covers(&self, place: usize) -> bool
+        ensures { λ r. ⌜ r ≡ inStrip (S·Store .meaning (now (self .entry) .below) .fitted) place ⌝ }
+    {
+        place < self.below.fitted() && 40 <= place && place < 64
+    }
+}
+
+pub impl<S: Store> Store for LoaderStrip<S> as LoaderStripStore {
+    ghost meaning = { λ s. stripped (S·Store .meaning (s .below)) (s .strip) };
+
+    ghost loans = { λ s. S·Store .loans (s .below) };
+
+    fn fitted(&self) -> usize {
+        self.below.fitted()
+    }
+
+    fn kind(&self, place: usize) -> Kind {
+        if self.covers(place) { Kind::Fixed } else { self.below.kind(place) }
+    }
+
+    fn read(&self, place: usize) -> u16 {
+        if self.covers(place) { self.strip[place - 40] } else { self.below.read(place) }
+    }
+
+    fn write(&mut self, place: usize, word: u16) {
+        if !self.covers(place) {
+            self.below.write(place, word);
+        }
+    }
+}
