@@ -1,0 +1,5 @@
+//! Buses: the teletype, the drives, and two buses joined as one.
+pub mod drives;
+pub mod joined;
+pub mod teletype;
+pub mod usage;
