@@ -1,6 +1,6 @@
 ghost use mathlib.Core.Path.{_≡_};
-ghost use mathlib.Core.List.{_∷_};
 ghost use denote.Ref.{now, name};
+ghost use Rattle.store.specs.Loans.{loan};
 use model::Kind;
 use store::meaning::Store;
 
@@ -18,12 +18,21 @@ impl<'a, S> Borrowed<'a, S> {
     {
         Borrowed { store }
     }
+
+    /// The store as it is now.
+    pub fn into_store(self) -> &'a mut S
+        ensures holds { λ r. ⌜ now r ≡ now (self .entry .store) ⌝ }
+        ensures lent { λ r. ⌜ name r ≡ name (self .entry .store) ⌝ }
+    {
+        let Borrowed { store } = self;
+        store
+    }
 }
 
 pub impl<S: Store> Store for Borrowed<'_, S> as BorrowedStore {
     ghost meaning = { λ s. S·Store .meaning (now (s .store)) };
 
-    ghost loans = { λ s. name (s .store) ∷ S·Store .loans (now (s .store)) };
+    ghost loans = { λ s. loan (name (s .store)) (S·Store .loans (now (s .store))) };
 
     fn fitted(&self) -> usize {
         self.store.fitted()

@@ -1,7 +1,8 @@
 ghost use mathlib.Core.Path.{_≡_};
-ghost use mathlib.Core.List.{[], _∷_};
 ghost use denote.Ref.{now, name};
-ghost use Rattle.stores.specs.Layers.{imagePlaces, byteImage};
+ghost use Rattle.stores.specs.Layers.{imagePlaces, byteImage, imageAfter};
+ghost use Rattle.store.specs.Loans.{none, loan};
+ghost use Rattle.model.specs.Stores.{stored};
 use model::Kind;
 use store::boards::LIMIT;
 use store::meaning::Store;
@@ -40,7 +41,7 @@ impl<'a> ByteImage<'a> {
 pub impl Store for ByteImage<'_> as ByteImageStore {
     ghost meaning = { λ s. byteImage (now (s .bytes)) };
 
-    ghost loans = { λ s. name (s .bytes) ∷ [] };
+    ghost loans = { λ s. loan (name (s .bytes)) none };
 
     fn fitted(&self) -> usize {
         self.places()
@@ -58,7 +59,12 @@ pub impl Store for ByteImage<'_> as ByteImageStore {
         }
     }
 
-    fn write(&mut self, place: usize, word: u16) {
+    /// A last odd byte and those past the limit stay.
+    fn write(&mut self, place: usize, word: u16)
+        ensures written { λ _. ⌜ byteImage (now (now (self .exit) .bytes)) ≡ stored (byteImage (now (now (self .entry) .bytes))) place word ⌝ }
+        ensures lent { λ _. ⌜ loan (name (now (self .exit) .bytes)) none ≡ loan (name (now (self .entry) .bytes)) none ⌝ }
+        ensures bytes { λ _. ⌜ now (now (self .exit) .bytes) ≡ imageAfter (now (now (self .entry) .bytes)) place word ⌝ }
+    {
         if place < self.places() {
             self.bytes[2 * place] = (word / 256) as u8;
             self.bytes[2 * place + 1] = (word % 256) as u8;

@@ -1,6 +1,7 @@
 ghost use mathlib.Core.Path.{_≡_};
-ghost use mathlib.Core.List.{_++_};
-ghost use Rattle.stores.specs.Layers.{behind};
+ghost use Rattle.stores.specs.Layers.{behind, firstAfter, secondAfter};
+ghost use Rattle.store.specs.Loans.{both};
+ghost use Rattle.model.specs.Stores.{stored};
 use model::Kind;
 use store::boards::LIMIT;
 use store::meaning::Store;
@@ -34,7 +35,7 @@ impl<S, T> BankPair<S, T> {
 pub impl<S: Store, T: Store> Store for BankPair<S, T> as BankPairStore {
     ghost meaning = { λ s. behind (S·Store .meaning (s .first)) (T·Store .meaning (s .second)) };
 
-    ghost loans = { λ s. S·Store .loans (s .first) ++ T·Store .loans (s .second) };
+    ghost loans = { λ s. both (S·Store .loans (s .first)) (T·Store .loans (s .second)) };
 
     fn fitted(&self) -> usize {
         (self.first.fitted() + self.second.fitted()).min(LIMIT)
@@ -62,7 +63,13 @@ pub impl<S: Store, T: Store> Store for BankPair<S, T> as BankPairStore {
         }
     }
 
-    fn write(&mut self, place: usize, word: u16) {
+    /// Places of the second past the limit stay.
+    fn write(&mut self, place: usize, word: u16)
+        ensures written { λ _. ⌜ behind (S·Store .meaning (now (self .exit) .first)) (T·Store .meaning (now (self .exit) .second)) ≡ stored (behind (S·Store .meaning (now (self .entry) .first)) (T·Store .meaning (now (self .entry) .second))) place word ⌝ }
+        ensures lent { λ _. ⌜ both (S·Store .loans (now (self .exit) .first)) (T·Store .loans (now (self .exit) .second)) ≡ both (S·Store .loans (now (self .entry) .first)) (T·Store .loans (now (self .entry) .second)) ⌝ }
+        ensures before { λ _. ⌜ S·Store .meaning (now (self .exit) .first) ≡ firstAfter (S·Store .meaning (now (self .entry) .first)) place word ⌝ }
+        ensures after { λ _. ⌜ T·Store .meaning (now (self .exit) .second) ≡ secondAfter (S·Store .meaning (now (self .entry) .first)) (T·Store .meaning (now (self .entry) .second)) place word ⌝ }
+    {
         let first = self.first.fitted();
         if place < first {
             self.first.write(place, word);

@@ -1,5 +1,6 @@
 ghost use mathlib.Core.Path.{_≡_};
-ghost use Rattle.stores.specs.Layers.{inStrip, stripped};
+ghost use Rattle.stores.specs.Layers.{inStrip, stripped, underAfter};
+ghost use Rattle.model.specs.Stores.{stored};
 use model::Kind;
 use store::meaning::Store;
 
@@ -53,7 +54,13 @@ pub impl<S: Store> Store for LoaderStrip<S> as LoaderStripStore {
         if self.covers(place) { self.strip[place - 40] } else { self.below.read(place) }
     }
 
-    fn write(&mut self, place: usize, word: u16) {
+    /// The strip and what it hides stay.
+    fn write(&mut self, place: usize, word: u16)
+        ensures written { λ _. ⌜ stripped (S·Store .meaning (now (self .exit) .below)) (now (self .exit) .strip) ≡ stored (stripped (S·Store .meaning (now (self .entry) .below)) (now (self .entry) .strip)) place word ⌝ }
+        ensures lent { λ _. ⌜ S·Store .loans (now (self .exit) .below) ≡ S·Store .loans (now (self .entry) .below) ⌝ }
+        ensures under { λ _. ⌜ S·Store .meaning (now (self .exit) .below) ≡ underAfter (S·Store .meaning (now (self .entry) .below)) place word ⌝ }
+        ensures holds { λ _. ⌜ now (self .exit) .strip ≡ now (self .entry) .strip ⌝ }
+    {
         if !self.covers(place) {
             self.below.write(place, word);
         }

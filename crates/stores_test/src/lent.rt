@@ -1,0 +1,65 @@
+ghost use mathlib.Core.Path.{_≡_};
+ghost use Rattle.model.specs.Stores.{stored};
+ghost use Rattle.store.specs.Boards.{coreBoards};
+ghost use Rattle.stores.specs.Layers.{byteImage, behind, stripped};
+use store::boards::{CoreBoards, CoreBoardsStore};
+use store::meaning::Store;
+use stores::borrowed::{Borrowed, BorrowedStore};
+use stores::image::{ByteImage, ByteImageStore};
+use stores::pair::{BankPair, BankPairStore};
+use stores::strip::{LoaderStrip, LoaderStripStore};
+
+/// Sends a halfword to a store.
+fn send<S: Store>(store: &mut S, place: usize, word: u16)
+    ensures written { λ _. ⌜ S·Store .meaning (now (store .exit)) ≡ stored (S·Store .meaning (now (store .entry))) place word ⌝ }
+    ensures lent { λ _. ⌜ S·Store .loans (now (store .exit)) ≡ S·Store .loans (now (store .entry)) ⌝ }
+{
+    store.write(place, word);
+}
+
+/// Sends a halfword to lent bytes.
+fn send_to_bytes(bytes: &mut [u8], place: usize, word: u16)
+    ensures { λ _. ⌜ byteImage (now (bytes .exit)) ≡ stored (byteImage (now (bytes .entry))) place word ⌝ }
+{
+    let mut image = ByteImage::new(bytes);
+    send(&mut image, place, word);
+}
+
+/// Sends a halfword to lent memory in two banks.
+fn send_to_banks(low: &mut [u16], high: &mut [u8], place: usize, word: u16)
+    ensures { λ _. ⌜ behind (coreBoards (now (low .exit))) (byteImage (now (high .exit))) ≡ stored (behind (coreBoards (now (low .entry))) (byteImage (now (high .entry)))) place word ⌝ }
+{
+    let mut banks = BankPair { first: CoreBoards::new(low), second: ByteImage::new(high) };
+    send(&mut banks, place, word);
+    let BankPair { first: _low, second: _high } = banks;
+}
+
+/// Sends a halfword to lent memory under a loader strip.
+fn send_under_strip(words: &mut [u16], strip: [u16; 24], place: usize, word: u16)
+    ensures { λ _. ⌜ stripped (coreBoards (now (words .exit))) strip ≡ stored (stripped (coreBoards (now (words .entry))) strip) place word ⌝ }
+{
+    let mut store = LoaderStrip { below: CoreBoards::new(words), strip };
+    send(&mut store, place, word);
+    let LoaderStrip { below, strip: _ } = store;
+    let _words = below.into_words();
+}
+
+/// Sends a halfword to a store that is lent.
+fn send_to_lent<S: Store>(store: &mut S, place: usize, word: u16)
+    ensures written { λ _. ⌜ S·Store .meaning (now (store .exit)) ≡ stored (S·Store .meaning (now (store .entry))) place word ⌝ }
+    ensures lent { λ _. ⌜ S·Store .loans (now (store .exit)) ≡ S·Store .loans (now (store .entry)) ⌝ }
+{
+    let mut borrowed = Borrowed::new(store);
+    send(&mut borrowed, place, word);
+}
+
+/// Sends a halfword to two stores that are lent, one behind the other.
+fn send_to_two<S: Store, T: Store>(low: &mut S, high: &mut T, place: usize, word: u16)
+    ensures { λ _. ⌜ behind (S·Store .meaning (now (low .exit))) (T·Store .meaning (now (high .exit))) ≡ stored (behind (S·Store .meaning (now (low .entry))) (T·Store .meaning (now (high .entry)))) place word ⌝ }
+{
+    let mut banks = BankPair { first: Borrowed::new(low), second: Borrowed::new(high) };
+    send(&mut banks, place, word);
+    let BankPair { first, second } = banks;
+    let _low = first.into_store();
+    let _high = second.into_store();
+}

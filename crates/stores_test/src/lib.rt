@@ -1,0 +1,2 @@
+//! Stores and buses at their edges, and what the owner of lent memory knows of it afterwards.
+mod lent;
