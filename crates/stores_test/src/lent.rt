@@ -1,7 +1,7 @@
 ghost use mathlib.Core.Path.{_≡_};
 ghost use Rattle.model.specs.Stores.{stored};
 ghost use Rattle.store.specs.Boards.{coreBoards};
-ghost use Rattle.stores.specs.Layers.{byteImage, behind, stripped};
+ghost use Rattle.stores.specs.Layers.{byteImage, behind, underAfter};
 use store::boards::{CoreBoards, CoreBoardsStore};
 use store::meaning::Store;
 use stores::borrowed::{Borrowed, BorrowedStore};
@@ -25,25 +25,6 @@ fn send_to_bytes(bytes: &mut [u8], place: usize, word: u16)
     send(&mut image, place, word);
 }
 
-/// Sends a halfword to lent memory in two banks.
-fn send_to_banks(low: &mut [u16], high: &mut [u8], place: usize, word: u16)
-    ensures { λ _. ⌜ behind (coreBoards (now (low .exit))) (byteImage (now (high .exit))) ≡ stored (behind (coreBoards (now (low .entry))) (byteImage (now (high .entry)))) place word ⌝ }
-{
-    let mut banks = BankPair { first: CoreBoards::new(low), second: ByteImage::new(high) };
-    send(&mut banks, place, word);
-    let BankPair { first: _low, second: _high } = banks;
-}
-
-/// Sends a halfword to lent memory under a loader strip.
-fn send_under_strip(words: &mut [u16], strip: [u16; 24], place: usize, word: u16)
-    ensures { λ _. ⌜ stripped (coreBoards (now (words .exit))) strip ≡ stored (stripped (coreBoards (now (words .entry))) strip) place word ⌝ }
-{
-    let mut store = LoaderStrip { below: CoreBoards::new(words), strip };
-    send(&mut store, place, word);
-    let LoaderStrip { below, strip: _ } = store;
-    let _words = below.into_words();
-}
-
 /// Sends a halfword to a store that is lent.
 fn send_to_lent<S: Store>(store: &mut S, place: usize, word: u16)
     ensures written { λ _. ⌜ S·Store .meaning (now (store .exit)) ≡ stored (S·Store .meaning (now (store .entry))) place word ⌝ }
@@ -55,11 +36,32 @@ fn send_to_lent<S: Store>(store: &mut S, place: usize, word: u16)
 
 /// Sends a halfword to two stores that are lent, one behind the other.
 fn send_to_two<S: Store, T: Store>(low: &mut S, high: &mut T, place: usize, word: u16)
-    ensures { λ _. ⌜ behind (S·Store .meaning (now (low .exit))) (T·Store .meaning (now (high .exit))) ≡ stored (behind (S·Store .meaning (now (low .entry))) (T·Store .meaning (now (high .entry)))) place word ⌝ }
+    ensures written { λ _. ⌜ behind (S·Store .meaning (now (low .exit))) (T·Store .meaning (now (high .exit))) ≡ stored (behind (S·Store .meaning (now (low .entry))) (T·Store .meaning (now (high .entry)))) place word ⌝ }
+    ensures first { λ _. ⌜ S·Store .loans (now (low .exit)) ≡ S·Store .loans (now (low .entry)) ⌝ }
+    ensures second { λ _. ⌜ T·Store .loans (now (high .exit)) ≡ T·Store .loans (now (high .entry)) ⌝ }
 {
-    let mut banks = BankPair { first: Borrowed::new(low), second: Borrowed::new(high) };
+    let mut banks = BankPair::new(Borrowed::new(low), Borrowed::new(high));
     send(&mut banks, place, word);
-    let BankPair { first, second } = banks;
+    let (first, second) = banks.into_parts();
     let _low = first.into_store();
     let _high = second.into_store();
+}
+
+/// Sends a halfword to lent memory in two banks.
+fn send_to_banks(low: &mut [u16], high: &mut [u8], place: usize, word: u16)
+    ensures { λ _. ⌜ behind (coreBoards (now (low .exit))) (byteImage (now (high .exit))) ≡ stored (behind (coreBoards (now (low .entry))) (byteImage (now (high .entry)))) place word ⌝ }
+{
+    let mut boards = CoreBoards::new(low);
+    let mut image = ByteImage::new(high);
+    send_to_two(&mut boards, &mut image, place, word);
+}
+
+/// Sends a halfword to a store that is lent, under a loader strip.
+fn send_under_strip<S: Store>(store: &mut S, strip: [u16; 24], place: usize, word: u16)
+    ensures under { λ _. ⌜ S·Store .meaning (now (store .exit)) ≡ underAfter (S·Store .meaning (now (store .entry))) place word ⌝ }
+    ensures lent { λ _. ⌜ S·Store .loans (now (store .exit)) ≡ S·Store .loans (now (store .entry)) ⌝ }
+{
+    let mut stripped = LoaderStrip::new(Borrowed::new(store), strip);
+    stripped.write(place, word);
+    let _store = stripped.into_below().into_store();
 }
