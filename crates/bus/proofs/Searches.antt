@@ -61,9 +61,9 @@ found-from : (b : Bus) (n k : ℕ) → 1 ≤ k → k + n ≡ 256 → Quiet b k �
 unfolding firstFrom
 found-from b zero k l e quiet = let z : k ≡ 256 = omega arith in rw z at quiet
 found-from b (suc n) k l e quiet =
-    elim (b k .requests) as (λ x. b k .requests ≡ x → Found b (cond x (Some k) (firstFrom b n (k + 1))))
-    [ true ↦ λ _. (l, omega arith, quiet)
-    | false ↦ λ h. found-from b n (k + 1) (omega arith) (omega arith) (λ j p q. ⊎-elim (λ before. quiet j p before) (λ at. let z : j ≡ k = omega arith in rw z h) (cases-lt j k))
+    elim (b k .requests) as (λ x. b k .requests ≡ x → Found b (cond x (Some k) (firstFrom b n (k + 1)))) [
+      | true ↦ λ _. (l, omega arith, quiet)
+      | false ↦ λ h. found-from b n (k + 1) (omega arith) (omega arith) (λ j p q. ⊎-elim (λ before. quiet j p before) (λ at. let z : j ≡ k = omega arith in rw z h) (cases-lt j k))
     ] refl
 
 pub lowest-finds : (b : Bus) → Found b (lowest b)

@@ -87,6 +87,10 @@ driveShown d = present 0 (d .position / 256) false (d .usage)
 abbrev pub driveBus : List Drive → Bus
 driveBus drives = λ n. cond (isDrive n) (driveShown (getD drives (n - 16) newDrive)) nobody
 
+-- The position of the device n, if it is a drive.
+abbrev pub positionOf : List Drive → ℕ → Option ℕ
+positionOf drives n = cond (isDrive n) (Some (getD drives (n - 16) newDrive .position)) None
+
 -- Two buses as one: a device that answers on the first is the first's, any other the second's.
 abbrev pub joined : Bus → Bus → Bus
 joined a b = λ n. cond (a n .answers) (a n) (b n)

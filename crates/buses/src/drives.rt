@@ -1,10 +1,16 @@
 ghost use mathlib.Core.Path.{_≡_};
-ghost use Prim.Native.Nat.{_/_};
+ghost use Prim.Native.Nat.{_-_, _/_, _<_};
+ghost use mathlib.Core.Bool.{true};
 ghost use denote.Ref.{now};
-ghost use lib.ListN.{replicate};
-ghost use Rattle.buses.specs.Devices.{newDrive, driveRead, driveWritten, driveCommanded, isDrive, driveBus};
-use bus::meaning::Bus;
+ghost use lib.ListN.{getD, set, replicate};
+ghost use Rattle.buses.specs.Devices.{newDrive, driveRead, driveWritten, driveCommanded, isDrive, driveBus, positionOf};
+ghost use Rattle.model.specs.Buses.{changed, wasWritten};
 use crate::usage::Usage;
+use bus::meaning::Bus;
+
+/// The device number of the first drive, and the number of drives.
+const FIRST: u8 = 16;
+const COUNT: usize = 8;
 
 /// A drive: two bytes written set its position, the high one first.
 #[derive(Clone, Copy)]
@@ -19,7 +25,11 @@ impl Drive {
     pub fn new() -> Drive
         ensures { λ r. ⌜ r ≡ newDrive ⌝ }
     {
-        Drive { usage: Usage::new(), position: 0, high: None }
+        Drive {
+            usage: Usage::new(),
+            position: 0,
+            high: None,
+        }
     }
 
     fn offer(&self) -> u8
@@ -59,13 +69,21 @@ impl Drive {
 fn is_drive(device: u8) -> bool
     ensures { λ r. ⌜ r ≡ isDrive device ⌝ }
 {
-    16 <= device && device < 24
+    FIRST <= device && device < FIRST + COUNT as u8
+}
+
+/// Which of the drives a device is.
+fn place(device: u8) -> usize
+    requires { ⌜ isDrive device ≡ true ⌝ }
+    ensures { λ r. ⌜ r ≡ device - 16 ⌝ ∗ ⌜ r < 8 ⌝ }
+{
+    (device - FIRST) as usize
 }
 
 /// The eight drives, devices 16 to 23.
 #[derive(Drop)]
 pub struct Drives {
-    drives: [Drive; 8],
+    drives: [Drive; COUNT],
 }
 
 impl Drives {
@@ -73,7 +91,20 @@ impl Drives {
     pub fn new() -> Drives
         ensures { λ r. ⌜ r .drives ≡ replicate 8 newDrive ⌝ }
     {
-        Drives { drives: [Drive::new(); 8] }
+        Drives {
+            drives: [Drive::new(); COUNT],
+        }
+    }
+
+    /// The position of a drive, if the device is one.
+    pub fn position(&self, device: u8) -> Option<u16>
+        ensures { λ r. ⌜ r ≡ positionOf (now (self .entry) .drives) device ⌝ }
+    {
+        if is_drive(device) {
+            Some(self.drives[place(device)].position)
+        } else {
+            None
+        }
     }
 }
 
@@ -89,7 +120,11 @@ pub impl Bus for Drives as DrivesBus {
     }
 
     fn offer(&self, device: u8) -> u8 {
-        if is_drive(device) { self.drives[device as usize - 16].offer() } else { 0 }
+        if is_drive(device) {
+            self.drives[place(device)].offer()
+        } else {
+            0
+        }
     }
 
     fn requests(&self, _device: u8) -> bool {
@@ -101,15 +136,20 @@ pub impl Bus for Drives as DrivesBus {
     }
 
     fn read(&mut self, device: u8) -> u8 {
-        self.drives[device as usize - 16].read();
-        self.drives[device as usize - 16].offer()
+        self.drives[place(device)].read();
+        self.drives[place(device)].offer()
     }
 
-    fn write(&mut self, device: u8, byte: u8) {
-        self.drives[device as usize - 16].write(byte);
+    /// Two bytes set the position, the high one first.
+    fn write(&mut self, device: u8, byte: u8)
+        requires { ⌜ driveBus (now self .drives) device .answers ≡ true ⌝ }
+        ensures counted { λ _. ⌜ driveBus (now (self .exit) .drives) ≡ changed (driveBus (now (self .entry) .drives)) device (wasWritten byte (driveBus (now (self .exit) .drives) device) (driveBus (now (self .entry) .drives) device)) ⌝ }
+        ensures moved { λ _. ⌜ now (self .exit) .drives ≡ set (now (self .entry) .drives) (device - 16) (driveWritten byte (getD (now (self .entry) .drives) (device - 16) newDrive)) ⌝ }
+    {
+        self.drives[place(device)].write(byte);
     }
 
     fn command(&mut self, device: u8, byte: u8) {
-        self.drives[device as usize - 16].command(byte);
+        self.drives[place(device)].command(byte);
     }
 }

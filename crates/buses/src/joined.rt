@@ -39,15 +39,27 @@ pub impl<A: Bus, B: Bus> Bus for JoinedBus<A, B> as JoinedBusBus {
     }
 
     fn status(&self, device: u8) -> u8 {
-        if self.first.answers(device) { self.first.status(device) } else { self.second.status(device) }
+        if self.first.answers(device) {
+            self.first.status(device)
+        } else {
+            self.second.status(device)
+        }
     }
 
     fn offer(&self, device: u8) -> u8 {
-        if self.first.answers(device) { self.first.offer(device) } else { self.second.offer(device) }
+        if self.first.answers(device) {
+            self.first.offer(device)
+        } else {
+            self.second.offer(device)
+        }
     }
 
     fn requests(&self, device: u8) -> bool {
-        if self.first.answers(device) { self.first.requests(device) } else { self.second.requests(device) }
+        if self.first.answers(device) {
+            self.first.requests(device)
+        } else {
+            self.second.requests(device)
+        }
     }
 
     fn requesting(&self) -> Option<u8> {
@@ -63,7 +75,11 @@ pub impl<A: Bus, B: Bus> Bus for JoinedBus<A, B> as JoinedBusBus {
     }
 
     fn read(&mut self, device: u8) -> u8 {
-        if self.first.answers(device) { self.first.read(device) } else { self.second.read(device) }
+        if self.first.answers(device) {
+            self.first.read(device)
+        } else {
+            self.second.read(device)
+        }
     }
 
     fn write(&mut self, device: u8, byte: u8) {

@@ -2,9 +2,15 @@ ghost use mathlib.Core.Path.{_≡_};
 ghost use denote.Ref.{now};
 ghost use Rattle.queue.specs.Rows.{queued};
 ghost use Rattle.buses.specs.Devices.{unused, onceRead, oldest, rest, teletype};
-use bus::meaning::Bus;
 use crate::usage::Usage;
+use bus::meaning::Bus;
 use queue::Queue;
+
+/// The device number of the teletype.
+const NUMBER: u8 = 2;
+
+/// The status when no byte waits.
+const EMPTY: u8 = 0x08;
 
 /// The teletype, device 2: bytes wait until they are read.
 #[derive(Drop)]
@@ -19,7 +25,10 @@ impl<'a> Teletype<'a> {
         ensures waits { λ r. ⌜ queued (r .waiting) ≡ queued (bytes .entry) ⌝ }
         ensures fresh { λ r. ⌜ r .usage ≡ unused ⌝ }
     {
-        Teletype { waiting: bytes, usage: Usage::new() }
+        Teletype {
+            waiting: bytes,
+            usage: Usage::new(),
+        }
     }
 
     /// The queue as it is now.
@@ -48,15 +57,19 @@ pub impl Bus for Teletype<'_> as TeletypeBus {
     ghost devices = { λ t. teletype (queued (t .waiting)) (t .usage) };
 
     fn answers(&self, device: u8) -> bool {
-        device == 2
+        device == NUMBER
     }
 
     fn status(&self, device: u8) -> u8 {
-        if device == 2 && self.waiting.len() == 0 { 8 } else { 0 }
+        if device == NUMBER && self.waiting.is_empty() {
+            EMPTY
+        } else {
+            0
+        }
     }
 
     fn offer(&self, device: u8) -> u8 {
-        if device != 2 {
+        if device != NUMBER {
             return 0;
         }
         match self.waiting.front() {
@@ -66,11 +79,11 @@ pub impl Bus for Teletype<'_> as TeletypeBus {
     }
 
     fn requests(&self, device: u8) -> bool {
-        device == 2 && self.waiting.len() != 0 && self.usage.command / 64 == 1
+        device == NUMBER && !self.waiting.is_empty() && self.usage.command / 64 == 1
     }
 
     fn requesting(&self) -> Option<u8> {
-        if self.requests(2) { Some(2) } else { None }
+        if self.requests(NUMBER) { Some(NUMBER) } else { None }
     }
 
     fn read(&mut self, _device: u8) -> u8 {

@@ -17,7 +17,13 @@ impl Usage {
     pub fn new() -> Usage
         ensures { λ r. ⌜ r ≡ unused ⌝ }
     {
-        Usage { latest: 0, command: 0, reads: 0, writes: 0, commands: 0 }
+        Usage {
+            latest: 0,
+            command: 0,
+            reads: 0,
+            writes: 0,
+            commands: 0,
+        }
     }
 
     /// One more read.

@@ -14,11 +14,11 @@ boardPlaces words = min (length words) storeLimit
 
 abbrev pub coreBoards : List ℕ → Store
 coreBoards words =
-    record
-      { fitted = boardPlaces words
-      ; kind = λ p. cond (ltb p (boardPlaces words)) Writable Unfitted
-      ; word = λ p. cond (ltb p (boardPlaces words)) (getD words p 0) 0
-      }
+    record {
+      fitted = boardPlaces words;
+      kind = λ p. cond (ltb p (boardPlaces words)) Writable Unfitted;
+      word = λ p. cond (ltb p (boardPlaces words)) (getD words p 0) 0;
+    }
 
 -- Their halfwords after v was written to the place p.
 abbrev pub boardsAfter : List ℕ → ℕ → ℕ → List ℕ

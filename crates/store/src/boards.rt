@@ -51,11 +51,19 @@ pub impl Store for CoreBoards<'_> as CoreBoardsStore {
     }
 
     fn kind(&self, place: usize) -> Kind {
-        if place < self.places() { Kind::Writable } else { Kind::Unfitted }
+        if place < self.places() {
+            Kind::Writable
+        } else {
+            Kind::Unfitted
+        }
     }
 
     fn read(&self, place: usize) -> u16 {
-        if place < self.places() { self.words[place] } else { 0 }
+        if place < self.places() {
+            self.words[place]
+        } else {
+            0
+        }
     }
 
     /// Words past the limit stay.

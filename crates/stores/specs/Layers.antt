@@ -18,11 +18,11 @@ imageWord bytes p = getD bytes (2 * p) 0 * 256 + getD bytes (2 * p + 1) 0
 
 abbrev pub byteImage : List ℕ → Store
 byteImage bytes =
-    record
-      { fitted = imagePlaces bytes
-      ; kind = λ p. cond (ltb p (imagePlaces bytes)) Writable Unfitted
-      ; word = λ p. cond (ltb p (imagePlaces bytes)) (imageWord bytes p) 0
-      }
+    record {
+      fitted = imagePlaces bytes;
+      kind = λ p. cond (ltb p (imagePlaces bytes)) Writable Unfitted;
+      word = λ p. cond (ltb p (imagePlaces bytes)) (imageWord bytes p) 0;
+    }
 
 -- Its bytes after v was written to the place p.
 abbrev pub imageAfter : List ℕ → ℕ → ℕ → List ℕ
@@ -32,11 +32,11 @@ imageAfter bytes p v = cond (ltb p (imagePlaces bytes)) (set (set bytes (2 * p) 
 -- where n places are the first's.
 abbrev pub behind : Store → Store → Store
 behind a b =
-    record
-      { fitted = min (a .fitted + b .fitted) storeLimit
-      ; kind = λ p. cond (ltb p (a .fitted)) (a .kind p) (cond (ltb p storeLimit) (b .kind (p - a .fitted)) Unfitted)
-      ; word = λ p. cond (ltb p (a .fitted)) (a .word p) (cond (ltb p storeLimit) (b .word (p - a .fitted)) 0)
-      }
+    record {
+      fitted = min (a .fitted + b .fitted) storeLimit;
+      kind = λ p. cond (ltb p (a .fitted)) (a .kind p) (cond (ltb p storeLimit) (b .kind (p - a .fitted)) Unfitted);
+      word = λ p. cond (ltb p (a .fitted)) (a .word p) (cond (ltb p storeLimit) (b .word (p - a .fitted)) 0);
+    }
 
 -- The first store and the second after v was written to the place p of the two.
 abbrev pub firstAfter : Store → ℕ → ℕ → Store
@@ -52,11 +52,11 @@ inStrip fitted p = cond (ltb p fitted) (cond (leb 40 p) (ltb p 64) false) false
 -- The store m under a loader strip: the places that it covers are fixed, and hold its halfwords.
 abbrev pub stripped : Store → List ℕ → Store
 stripped m strip =
-    record
-      { fitted = m .fitted
-      ; kind = λ p. cond (inStrip (m .fitted) p) Fixed (m .kind p)
-      ; word = λ p. cond (inStrip (m .fitted) p) (getD strip (p - 40) 0) (m .word p)
-      }
+    record {
+      fitted = m .fitted;
+      kind = λ p. cond (inStrip (m .fitted) p) Fixed (m .kind p);
+      word = λ p. cond (inStrip (m .fitted) p) (getD strip (p - 40) 0) (m .word p);
+    }
 
 -- The store under the strip after v was written to the place p: what the strip covers does not reach it.
 abbrev pub underAfter : Store → ℕ → ℕ → Store

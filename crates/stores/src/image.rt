@@ -48,7 +48,11 @@ pub impl Store for ByteImage<'_> as ByteImageStore {
     }
 
     fn kind(&self, place: usize) -> Kind {
-        if place < self.places() { Kind::Writable } else { Kind::Unfitted }
+        if place < self.places() {
+            Kind::Writable
+        } else {
+            Kind::Unfitted
+        }
     }
 
     fn read(&self, place: usize) -> u16 {

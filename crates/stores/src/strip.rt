@@ -4,6 +4,10 @@ ghost use Rattle.model.specs.Stores.{stored};
 use model::Kind;
 use store::meaning::Store;
 
+/// The first place of a loader strip, and the place after its last.
+const START: usize = 40;
+const END: usize = 64;
+
 /// A store whose fitted places among 40 to 63 are a loader strip: fixed halfwords that hide those below.
 #[derive(Drop)]
 pub struct LoaderStrip<S> {
@@ -33,7 +37,7 @@ impl<S: Store> LoaderStrip<S> {
     fn covers(&self, place: usize) -> bool
         ensures { λ r. ⌜ r ≡ inStrip (S·Store .meaning (now (self .entry) .below) .fitted) place ⌝ }
     {
-        place < self.below.fitted() && 40 <= place && place < 64
+        place < self.below.fitted() && START <= place && place < END
     }
 }
 
@@ -47,11 +51,19 @@ pub impl<S: Store> Store for LoaderStrip<S> as LoaderStripStore {
     }
 
     fn kind(&self, place: usize) -> Kind {
-        if self.covers(place) { Kind::Fixed } else { self.below.kind(place) }
+        if self.covers(place) {
+            Kind::Fixed
+        } else {
+            self.below.kind(place)
+        }
     }
 
     fn read(&self, place: usize) -> u16 {
-        if self.covers(place) { self.strip[place - 40] } else { self.below.read(place) }
+        if self.covers(place) {
+            self.strip[place - START]
+        } else {
+            self.below.read(place)
+        }
     }
 
     /// The strip and what it hides stay.

@@ -2,12 +2,17 @@ ghost use mathlib.Core.Path.{_≡_};
 ghost use Rattle.model.specs.Stores.{stored};
 ghost use Rattle.store.specs.Boards.{coreBoards};
 ghost use Rattle.stores.specs.Layers.{byteImage, behind, underAfter};
-use store::boards::{CoreBoards, CoreBoardsStore};
+use store::boards::CoreBoards;
+use store::boards::CoreBoardsStore;
 use store::meaning::Store;
-use stores::borrowed::{Borrowed, BorrowedStore};
-use stores::image::{ByteImage, ByteImageStore};
-use stores::pair::{BankPair, BankPairStore};
-use stores::strip::{LoaderStrip, LoaderStripStore};
+use stores::borrowed::Borrowed;
+use stores::borrowed::BorrowedStore;
+use stores::image::ByteImage;
+use stores::image::ByteImageStore;
+use stores::pair::BankPair;
+use stores::pair::BankPairStore;
+use stores::strip::LoaderStrip;
+use stores::strip::LoaderStripStore;
 
 /// Sends a halfword to a store.
 fn send<S: Store>(store: &mut S, place: usize, word: u16)
