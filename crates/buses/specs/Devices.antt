@@ -1,7 +1,7 @@
 -- What each kind of bus means, by what it is made of.
 use mathlib.Core.Bool.{Bool, true, false, cond}
 use mathlib.Core.List.{List, [], _∷_}
-use Prim.Native.Nat.{ℕ, _+_, _-_, _*_, _/_, min}
+use Prim.Native.Nat.{ℕ, _+_, _-_, _*_, _/_}
 use lib.Dec.{eqb, leb, ltb}
 use lib.ListN.{getD}
 use Rattle.std.specs.declared.option.Option.{Option}
@@ -90,13 +90,3 @@ driveBus drives = λ n. cond (isDrive n) (driveShown (getD drives (n - 16) newDr
 -- The position of the device n, if it is a drive.
 abbrev pub positionOf : List Drive → ℕ → Option ℕ
 positionOf drives n = cond (isDrive n) (Some (getD drives (n - 16) newDrive .position)) None
-
--- Two buses as one: a device that answers on the first is the first's, any other the second's.
-abbrev pub joined : Bus → Bus → Bus
-joined a b = λ n. cond (a n .answers) (a n) (b n)
-
--- The lower of two device numbers, where there is one.
-abbrev pub lowerOf : Option ℕ → Option ℕ → Option ℕ
-lowerOf None b = b
-lowerOf (Some a) None = Some a
-lowerOf (Some a) (Some b) = Some (min a b)

@@ -1,5 +1,4 @@
-//! Buses: the teletype, the drives, and two buses joined as one.
+//! Buses: the teletype and the drives.
 pub mod drives;
-pub mod joined;
 pub mod teletype;
 pub mod usage;

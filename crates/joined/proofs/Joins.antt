@@ -7,7 +7,7 @@ use Rattle.std.specs.declared.option.Option.{Option}
 use Rattle.std.specs.declared.option.Option.the-variants.{None, Some}
 use Rattle.model.specs.Buses.{Bus, lowest}
 use Rattle.bus.proofs.Searches.{Quiet, Found, lowest-finds}
-use Rattle.buses.specs.Devices.{joined, lowerOf}
+use Rattle.joined.specs.Parts.{joined, lowerOf}
 
 -- where neither requests, the two joined do not
 quiet-joined : (a b : Bus) (j : ℕ) → a j .requests ≡ false → b j .requests ≡ false → joined a b j .requests ≡ false

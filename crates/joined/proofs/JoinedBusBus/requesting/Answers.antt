@@ -2,8 +2,8 @@ use mathlib.Core.Path.{sym}
 use borrow.Author.Needs.{needs}
 use Rattle.std.specs.declared.option.Option.the-variants.{None, Some}
 use Rattle.bus.proofs.Searches.{lowest-found, lowest-missing, lowest-none-last}
-use Rattle.buses.proofs.Joins.{joined-quiet}
-use Rattle.buses.proofs.joined.JoinedBusBus.requesting.Needs as need
+use Rattle.joined.proofs.Joins.{joined-quiet}
+use Rattle.joined.proofs.JoinedBusBus.requesting.Needs as need
 
 pub returns-in-rest : need.returns-in-rest
 returns-in-rest g c =

@@ -1,7 +1,7 @@
 use Prim.Native.Nat.{_≤_}
 use Rattle.bus.proofs.Searches.{Quiet}
-use Rattle.buses.specs.Devices.{joined}
-use Rattle.buses.proofs.joined.JoinedBusBus.requesting.Given as given
+use Rattle.joined.specs.Parts.{joined}
+use Rattle.joined.proofs.JoinedBusBus.requesting.Given as given
 
 -- no device that was passed requests
 abbrev pub Inv-loop-device : given.InvT-loop-device

@@ -1,6 +1,8 @@
+//! Two buses joined as one.
+
 ghost use mathlib.Core.Path.{_≡_};
 ghost use denote.Ref.{now};
-ghost use Rattle.buses.specs.Devices.{joined, lowerOf};
+ghost use Rattle.joined.specs.Parts.{joined, lowerOf};
 use bus::meaning::Bus;
 
 /// Two buses as one: a device that answers on the first is the first's in everything, any other is the second's.
