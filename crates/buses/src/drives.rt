@@ -2,14 +2,15 @@ ghost use mathlib.Core.Path.{_≡_};
 ghost use Prim.Native.Nat.{_-_, _/_, _<_};
 ghost use mathlib.Core.Bool.{true};
 ghost use denote.Ref.{now};
-ghost use lib.ListN.{getD, set, replicate};
-ghost use Rattle.buses.specs.Devices.{newDrive, driveRead, driveWritten, driveCommanded, isDrive, driveBus, positionOf};
-ghost use Rattle.model.specs.Buses.{changed, wasWritten};
+ghost use lib.ListN.{replicate};
+ghost use Rattle.buses.specs.Devices.{newDrive, driveRead, driveWritten, driveCommanded, isDrive, driveBus, positionOf, driveChanged};
+ghost use Rattle.model.specs.Buses.{changed, wasRead, wasWritten, wasCommanded};
 use crate::usage::Usage;
 use bus::meaning::Bus;
 
 /// The device number of the first drive, and the number of drives.
 const FIRST: u8 = 16;
+
 const COUNT: usize = 8;
 
 /// A drive: two bytes written set its position, the high one first.
@@ -135,7 +136,13 @@ pub impl Bus for Drives as DrivesBus {
         None
     }
 
-    fn read(&mut self, device: u8) -> u8 {
+    /// A pair half sent stays.
+    fn read(&mut self, device: u8) -> u8
+        requires { ⌜ driveBus (now self .drives) device .answers ≡ true ⌝ }
+        ensures value { λ r. ⌜ r ≡ driveBus (now (self .entry) .drives) device .offer ⌝ }
+        ensures counted { λ _. ⌜ driveBus (now (self .exit) .drives) ≡ changed (driveBus (now (self .entry) .drives)) device (wasRead (driveBus (now (self .exit) .drives) device) (driveBus (now (self .entry) .drives) device)) ⌝ }
+        ensures drives { λ _. ⌜ now (self .exit) .drives ≡ driveChanged driveRead (now (self .entry) .drives) device ⌝ }
+    {
         self.drives[place(device)].read();
         self.drives[place(device)].offer()
     }
@@ -144,12 +151,17 @@ pub impl Bus for Drives as DrivesBus {
     fn write(&mut self, device: u8, byte: u8)
         requires { ⌜ driveBus (now self .drives) device .answers ≡ true ⌝ }
         ensures counted { λ _. ⌜ driveBus (now (self .exit) .drives) ≡ changed (driveBus (now (self .entry) .drives)) device (wasWritten byte (driveBus (now (self .exit) .drives) device) (driveBus (now (self .entry) .drives) device)) ⌝ }
-        ensures moved { λ _. ⌜ now (self .exit) .drives ≡ set (now (self .entry) .drives) (device - 16) (driveWritten byte (getD (now (self .entry) .drives) (device - 16) newDrive)) ⌝ }
+        ensures drives { λ _. ⌜ now (self .exit) .drives ≡ driveChanged (driveWritten byte) (now (self .entry) .drives) device ⌝ }
     {
         self.drives[place(device)].write(byte);
     }
 
-    fn command(&mut self, device: u8, byte: u8) {
+    /// A pair half sent stays.
+    fn command(&mut self, device: u8, byte: u8)
+        requires { ⌜ driveBus (now self .drives) device .answers ≡ true ⌝ }
+        ensures counted { λ _. ⌜ driveBus (now (self .exit) .drives) ≡ changed (driveBus (now (self .entry) .drives)) device (wasCommanded byte (driveBus (now (self .exit) .drives) device) (driveBus (now (self .entry) .drives) device)) ⌝ }
+        ensures drives { λ _. ⌜ now (self .exit) .drives ≡ driveChanged (driveCommanded byte) (now (self .entry) .drives) device ⌝ }
+    {
         self.drives[place(device)].command(byte);
     }
 }

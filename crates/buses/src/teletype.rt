@@ -1,5 +1,5 @@
 ghost use mathlib.Core.Path.{_≡_};
-ghost use denote.Ref.{now};
+ghost use denote.Ref.{now, name};
 ghost use Rattle.queue.specs.Rows.{queued};
 ghost use Rattle.buses.specs.Devices.{unused, onceRead, oldest, rest, teletype};
 use crate::usage::Usage;
@@ -23,6 +23,7 @@ impl<'a> Teletype<'a> {
     /// A teletype for which the bytes wait.
     pub fn new(bytes: Queue<'a, u8>) -> Teletype<'a>
         ensures waits { λ r. ⌜ queued (r .waiting) ≡ queued (bytes .entry) ⌝ }
+        ensures lent { λ r. ⌜ name (r .waiting .slots) ≡ name (bytes .entry .slots) ⌝ }
         ensures fresh { λ r. ⌜ r .usage ≡ unused ⌝ }
     {
         Teletype {
@@ -33,7 +34,8 @@ impl<'a> Teletype<'a> {
 
     /// The queue as it is now.
     pub fn into_queue(self) -> Queue<'a, u8>
-        ensures { λ r. ⌜ queued r ≡ queued (self .entry .waiting) ⌝ }
+        ensures waits { λ r. ⌜ queued r ≡ queued (self .entry .waiting) ⌝ }
+        ensures lent { λ r. ⌜ name (r .slots) ≡ name (self .entry .waiting .slots) ⌝ }
     {
         let Teletype { waiting, usage: _ } = self;
         waiting
@@ -83,7 +85,11 @@ pub impl Bus for Teletype<'_> as TeletypeBus {
     }
 
     fn requesting(&self) -> Option<u8> {
-        if self.requests(NUMBER) { Some(NUMBER) } else { None }
+        if self.requests(NUMBER) {
+            Some(NUMBER)
+        } else {
+            None
+        }
     }
 
     fn read(&mut self, _device: u8) -> u8 {

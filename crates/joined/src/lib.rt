@@ -20,6 +20,15 @@ impl<A, B> JoinedBus<A, B> {
     {
         JoinedBus { first, second }
     }
+
+    /// The two buses as they are now.
+    pub fn into_parts(self) -> (A, B)
+        ensures before { λ r. ⌜ r .0 ≡ self .first ⌝ }
+        ensures after { λ r. ⌜ r .1 ≡ self .second ⌝ }
+    {
+        let JoinedBus { first, second } = self;
+        (first, second)
+    }
 }
 
 /// The lower of two device numbers, where there is one.

@@ -12,10 +12,11 @@ use Rattle.model.specs.Stores.{Store, storeLimit, stored}
 abbrev pub imagePlaces : List ℕ → ℕ
 imagePlaces bytes = min (length bytes / 2) storeLimit
 
--- Its place p is the bytes 2p and 2p + 1, the high one first.
+-- The halfword of a byte image at place p: the bytes 2p and 2p + 1, the high one first.
 abbrev pub imageWord : List ℕ → ℕ → ℕ
 imageWord bytes p = getD bytes (2 * p) 0 * 256 + getD bytes (2 * p + 1) 0
 
+-- A byte image: every place is writable.
 abbrev pub byteImage : List ℕ → Store
 byteImage bytes =
     record {
@@ -24,7 +25,7 @@ byteImage bytes =
       word = λ p. cond (ltb p (imagePlaces bytes)) (imageWord bytes p) 0;
     }
 
--- Its bytes after v was written to the place p.
+-- The bytes of a byte image after v was written to the place p.
 abbrev pub imageAfter : List ℕ → ℕ → ℕ → List ℕ
 imageAfter bytes p v = cond (ltb p (imagePlaces bytes)) (set (set bytes (2 * p) (v / 256)) (2 * p + 1) (v % 256)) bytes
 
@@ -38,10 +39,11 @@ behind a b =
       word = λ p. cond (ltb p (a .fitted)) (a .word p) (cond (ltb p storeLimit) (b .word (p - a .fitted)) 0);
     }
 
--- The first store and the second after v was written to the place p of the two.
+-- The first of two stores after v was written to the place p of the two.
 abbrev pub firstAfter : Store → ℕ → ℕ → Store
 firstAfter a p v = cond (ltb p (a .fitted)) (stored a p v) a
 
+-- The second of them.
 abbrev pub secondAfter : Store → Store → ℕ → ℕ → Store
 secondAfter a b p v = cond (ltb p (a .fitted)) b (cond (ltb p storeLimit) (stored b (p - a .fitted) v) b)
 

@@ -6,6 +6,7 @@ use store::meaning::Store;
 
 /// The first place of a loader strip, and the place after its last.
 const START: usize = 40;
+
 const END: usize = 64;
 
 /// A store whose fitted places among 40 to 63 are a loader strip: fixed halfwords that hide those below.

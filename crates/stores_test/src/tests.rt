@@ -1,15 +1,24 @@
-use buses::drives::{Drives, DrivesBus};
-use buses::teletype::{Teletype, TeletypeBus};
 use bus::meaning::Bus;
-use joined::{JoinedBus, JoinedBusBus};
-use model::{Kind, KindPartialEq};
+use buses::drives::Drives;
+use buses::drives::DrivesBus;
+use buses::teletype::Teletype;
+use buses::teletype::TeletypeBus;
+use joined::JoinedBus;
+use joined::JoinedBusBus;
+use model::Kind;
+use model::KindPartialEq;
 use queue::Queue;
 use std::test::*;
-use store::boards::{CoreBoards, CoreBoardsStore, LIMIT};
+use store::boards::CoreBoards;
+use store::boards::CoreBoardsStore;
+use store::boards::LIMIT;
 use store::meaning::Store;
-use stores::image::{ByteImage, ByteImageStore};
-use stores::pair::{BankPair, BankPairStore};
-use stores::strip::{LoaderStrip, LoaderStripStore};
+use stores::image::ByteImage;
+use stores::image::ByteImageStore;
+use stores::pair::BankPair;
+use stores::pair::BankPairStore;
+use stores::strip::LoaderStrip;
+use stores::strip::LoaderStripStore;
 
 #[test]
 fn no_places() -> Result<(), Fail> {
@@ -49,7 +58,10 @@ fn one_place_too_many(rt: LibcRuntime) -> Result<(), Fail> {
 fn banks_to_the_limit(rt: LibcRuntime) -> Result<(), Fail> {
     let mut low = vec![in rt.alloc(); 5u16; LIMIT - 1]?;
     let mut high = [1, 2, 3, 4];
-    let mut banks = BankPair::new(CoreBoards::new(low.as_mut_slice()), ByteImage::new(&mut high));
+    let mut banks = BankPair::new(
+        CoreBoards::new(low.as_mut_slice()),
+        ByteImage::new(&mut high),
+    );
     banks.write(LIMIT - 1, 0x0506);
     banks.write(LIMIT, 0x0708);
     check_eq(banks.fitted(), LIMIT)?;
