@@ -1,1 +1,1 @@
-mod Searches
+pub mod Searches

@@ -42,3 +42,30 @@ lowest-found b d le lt quiet asks = found b 255 1 d le (omega arith) quiet asks
 pub lowest-missing : (b : Bus) → ((j : ℕ) → 1 ≤ j → j < 256 → b j .requests ≡ false) → lowest b ≡ None
 unfolding lowest
 lowest-missing b quiet = missing b 255 1 (λ j l m. quiet j l (omega arith))
+
+-- the same, where the last device was asked by itself
+pub lowest-none-last : (b : Bus) (k : ℕ) → k ≡ 255 → ((j : ℕ) → 1 ≤ j → j < k → b j .requests ≡ false) → false ≡ b k .requests → lowest b ≡ None
+lowest-none-last b k last quiet asked =
+    lowest-missing b
+    (λ j l m. ⊎-elim (λ before. quiet j l before) (λ rest. let e : j ≡ k = omega arith in rw e (sym asked)) (cases-lt j k))
+
+-- what a search found: nothing before it requests
+abbrev pub Quiet : Bus → ℕ → Type 0
+Quiet b k = (j : ℕ) → 1 ≤ j → j < k → b j .requests ≡ false
+
+abbrev pub Found : Bus → Option ℕ → Type 0
+Found b None = Quiet b 256
+Found b (Some d) = (1 ≤ d) × (d < 256) × Quiet b d
+
+found-from : (b : Bus) (n k : ℕ) → 1 ≤ k → k + n ≡ 256 → Quiet b k → Found b (firstFrom b n k)
+unfolding firstFrom
+found-from b zero k l e quiet = let z : k ≡ 256 = omega arith in rw z at quiet
+found-from b (suc n) k l e quiet =
+    elim (b k .requests) as (λ x. b k .requests ≡ x → Found b (cond x (Some k) (firstFrom b n (k + 1)))) [
+      | true ↦ λ _. (l, omega arith, quiet)
+      | false ↦ λ h. found-from b n (k + 1) (omega arith) (omega arith) (λ j p q. ⊎-elim (λ before. quiet j p before) (λ at. let z : j ≡ k = omega arith in rw z h) (cases-lt j k))
+    ] refl
+
+pub lowest-finds : (b : Bus) → Found b (lowest b)
+unfolding lowest
+lowest-finds b = found-from b 255 1 (omega arith) (omega arith) (λ j l m. absurd (omega arith))

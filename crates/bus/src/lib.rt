@@ -1,3 +1,3 @@
-//! Buses: what every bus promises, the search for a request, and the silent bus.
+//! Buses: what every bus promises, how the lowest request is found, and the silent bus.
 pub mod meaning;
 pub mod silent;

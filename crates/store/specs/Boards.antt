@@ -3,7 +3,7 @@ use mathlib.Core.Bool.{Bool, true, false, cond}
 use mathlib.Core.List.{List}
 use Prim.Native.Nat.{ℕ, min}
 use lib.Dec.{ltb}
-use lib.ListN.{length, getD}
+use lib.ListN.{length, getD, set}
 use Rattle.model.specs.declared.Kind.{Kind}
 use Rattle.model.specs.declared.Kind.the-variants.{Writable, Fixed, Unfitted}
 use Rattle.model.specs.Stores.{Store, storeLimit}
@@ -14,8 +14,12 @@ boardPlaces words = min (length words) storeLimit
 
 abbrev pub coreBoards : List ℕ → Store
 coreBoards words =
-    record
-      { fitted = boardPlaces words
-      ; kind = λ p. cond (ltb p (boardPlaces words)) Writable Unfitted
-      ; word = λ p. cond (ltb p (boardPlaces words)) (getD words p 0) 0
-      }
+    record {
+      fitted = boardPlaces words;
+      kind = λ p. cond (ltb p (boardPlaces words)) Writable Unfitted;
+      word = λ p. cond (ltb p (boardPlaces words)) (getD words p 0) 0;
+    }
+
+-- Their halfwords after v was written to the place p.
+abbrev pub boardsAfter : List ℕ → ℕ → ℕ → List ℕ
+boardsAfter words p v = cond (ltb p (boardPlaces words)) (set words p v) words

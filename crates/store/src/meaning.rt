@@ -1,16 +1,15 @@
 ghost use mathlib.Core.Path.{_≡_};
-ghost use mathlib.Core.List.{List};
-ghost use Prim.Native.Nat.{ℕ};
 ghost use denote.Ref.{now};
 ghost use Rattle.model.specs.Stores.{Store as Meaning, Sound, stored};
+ghost use Rattle.store.specs.Loans.{Loans};
 use model::Kind;
 
 /// A store of halfwords. Its meaning is the kind of each place and what reading it gives; an implementation shows exactly this.
 pub trait Store {
     ghost meaning: { Self → Meaning };
 
-    /// The names of the memory that was lent for the store: a write keeps them.
-    ghost loans: { Self → List ℕ };
+    /// The memory that was lent for the store: a write keeps it.
+    ghost loans: { Self → Loans };
 
     /// How many places are fitted: they come first, and are no more than the limit.
     fn fitted(&self) -> usize
