@@ -21,6 +21,13 @@ impl Key {
         Key { position: 1 }
     }
 
+    /// Where the key is.
+    pub(crate) fn position(self) -> u8
+        ensures { λ r. ⌜ r ≡ self .position ⌝ }
+    {
+        self.position
+    }
+
     /// The key at a position.
     pub(crate) fn at(position: u8) -> Result<Key, Denial>
         ensures refused { λ r. ⌜ refusal r ≡ positionDenial position ⌝ }

@@ -127,4 +127,18 @@ impl<S: Store, B: Bus> Machine<S, B> {
         self.key = key;
         answer
     }
+
+    /// The interrupt status register: a question, at any key position, that changes nothing.
+    pub fn interrupt_status(&self) -> u32
+        ensures { λ r. ⌜ r ≡ now (self .entry) .core .controller .faults ⌝ }
+    {
+        self.core.faults()
+    }
+
+    /// The position of the key: a question that changes nothing.
+    pub fn key_position(&self) -> u8
+        ensures { λ r. ⌜ r ≡ now (self .entry) .key .position ⌝ }
+    {
+        self.key.position()
+    }
 }
