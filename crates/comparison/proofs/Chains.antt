@@ -11,14 +11,16 @@ use Rattle.std.specs.declared.option.Option.the-variants.{None, Some}
 use Rattle.model.specs.declared.Record.{Record}
 use Rattle.model.specs.declared.StepAnswer.{StepAnswer}
 use Rattle.model.specs.declared.StepAnswer.the-variants.{Done, Waiting, Interrupted}
+use Rattle.model.specs.Stores.{Store}
 use Rattle.model.specs.Buses.{Bus}
 use Rattle.model.specs.States.{State}
 use Rattle.model.specs.Steps.{Ending, finished, waiting, took, stepped as stepOf}
 use Rattle.model.specs.Answers.{Answer, denied, done, shown, stepped, ran, played, faulted}
 use Rattle.model.specs.Console.{Desk, Did, didStep, unlessDenied, denial, Act, call, told, tell, Told}
 use Rattle.instructions.specs.Instructions.{instruction}
-use Rattle.isolation.specs.Calls.{Continued, step, Event, unseen, answered, interrupted, seen, Course, quiet, broken, ahead, joined, after, event, course}
+use Rattle.isolation.specs.Calls.{Reached, called, ran as byRun, played as byTape, Continued, step, Event, unseen, answered, interrupted, seen, Course, quiet, broken, ahead, joined, after, event, course}
 use Rattle.comparison.specs.declared.calls.Call.{Call}
+use Rattle.comparison.specs.declared.calls.Call.the-variants.{TurnKey, Initialise, Examine, Deposit, Set, Show, Step, Run, Play}
 use Rattle.comparison.specs.declared.calls.Continued.{Continued as Asking}
 use Rattle.comparison.specs.Lists.{Performs, PerformsAll, AskedAs, AllAsked, isInterrupt, Reports, FollowedOne, Noted, afterAll, Tells, Followed}
 
@@ -156,3 +158,20 @@ followed-more asked i x w u v ys zs b d r l is h one n =
           subst (λ (z : Course). Tells z zs d) (sym (course-more list c w))
           (tells-more (course instruction list w) (event instruction c (afterAll list w)) (after instruction c (afterAll list w) .core) r ys zs b d (h .tells) told n)
       })
+
+-- ── What a history reaches ──
+reached-one : {m : Store} {b : Bus} (c : Call) (w v : Desk) → Performs c w v → Reached instruction m b w → Reached instruction m b v
+reached-one {m} {b} (TurnKey n) w v h r = subst (Reached instruction m b) h (called (Act.turnKey n) r)
+reached-one {m} {b} Initialise w v h r = subst (Reached instruction m b) h (called Act.initialise r)
+reached-one {m} {b} (Examine a) w v h r = subst (Reached instruction m b) h (called (Act.examine a) r)
+reached-one {m} {b} (Deposit a x) w v h r = subst (Reached instruction m b) h (called (Act.deposit a x) r)
+reached-one {m} {b} (Set i x) w v h r = subst (Reached instruction m b) h (called (Act.setItem i x) r)
+reached-one {m} {b} (Show i) w v h r = subst (Reached instruction m b) h (called (Act.showItem i) r)
+reached-one {m} {b} Step w v h r = subst (Reached instruction m b) (h .2) (called (Act.step (h .0) (h .1)) r)
+reached-one (Run count) w v h r = byRun (h .0) count (h .1) (h .3) (h .2) r (h .4)
+reached-one (Play tape) w v h r = byTape (h .0) (tape .now) (h .1) (h .3) (h .2) r (h .4)
+
+pub reached-all : {m : Store} {b : Bus} (cs : List Call) (w v : Desk) → PerformsAll cs w v → Reached instruction m b w → Reached instruction m b v
+unfolding PerformsAll
+reached-all {m} {b} [] w v h r = subst (Reached instruction m b) (sym h) r
+reached-all (c ∷ cs) w v h r = reached-all cs (h .0) v (h .2) (reached-one c w (h .0) (h .1) r)
