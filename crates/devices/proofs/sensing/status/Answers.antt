@@ -1,6 +1,6 @@
 use Rattle.devices.specs.Devices.{statusTree}
 use borrow.Author.Needs.{needs}
-use Rattle.devices.proofs.named.status.Needs as need
+use Rattle.devices.proofs.sensing.status.Needs as need
 
 pub returns-in-Break-device : need.returns-in-Break-device
 unfolding statusTree
