@@ -36,7 +36,10 @@ fn played<S: Store + Drop>(rt: &LibcRuntime, name: &str, store: S, tape: &[u8]) 
     let status = machine.show(Item::Status).unwrap_or(0);
     let three = machine.show(Item::General(0, 3)).unwrap_or(0);
     println!(rt, "  {location:05X} {status:08X} register 3 {three:08X} words {:08X}", digest(&mut machine))?;
-    while let Some(entry) = trace.pop() {
+    for index in 0..8 {
+        let Some(entry) = trace.get(index) else {
+            break;
+        };
         let status = entry.status;
         let location = entry.location;
         let faults = entry.faults;
