@@ -2,6 +2,7 @@
 use mathlib.Core.Path.{_≡_}
 use mathlib.Core.List.{List, [], _∷_, _++_}
 use Prim.Native.Nat.{ℕ}
+use lib.ListN.{length}
 use Rattle.std.specs.declared.result.Result.{Result}
 use Rattle.std.specs.declared.result.Result.the-variants.{Ok, Err}
 use Rattle.std.specs.Options.{valueOr}
@@ -10,6 +11,7 @@ use Rattle.model.specs.declared.Record.{Record}
 use Rattle.model.specs.Answers.{number, causeNumber}
 use Rattle.tape.specs.declared.orders.TapeFault.{TapeFault}
 use Rattle.session.specs.Lines.{digits}
+use Rattle.outcome.specs.declared.shown.Shown.{Shown}
 
 -- Unless memory is wanting, the text has so many more characters at its end, and is as before in front of them.
 abbrev pub Adds : {X Y : Type 0} → Result X Y → List ℕ → List ℕ → List ℕ → Type 0
@@ -32,4 +34,22 @@ recordText r = digits 1 (causeNumber (r .cause)) ++ (digits 8 (r .status) ++ (di
 -- The records of a trace.
 unfoldable pub recordsText : List Record → List ℕ
 recordsText [] = []
-recordsText (record₁ ∷ records) = recordText record₁ ++ recordsText records
+recordsText (item ∷ items) = recordText item ++ recordsText items
+
+-- The trace: the number of records, then each, the oldest first.
+abbrev pub traceText : List Record → List ℕ
+traceText items = digits 2 (length items) ++ recordsText items
+
+-- The fields of a processor, a space before each.
+abbrev pub shownText : Shown → List ℕ
+shownText s =
+    (32 ∷ digits 5 (s .location))
+    ++ ((32 ∷ digits 8 (s .status))
+    ++ ((32 ∷ registersText (s .lower))
+    ++ ((32 ∷ registersText (s .upper))
+    ++ ((32 ∷ registersText (s .segments))
+    ++ (32 ∷ digits 2 (s .«interrupt_status»))))))
+
+-- The line of an outcome.
+abbrev pub lineText : Result ℕ TapeFault → Shown → List Record → ℕ → List ℕ
+lineText ending s trace digest = endingText ending ++ (shownText s ++ ((32 ∷ traceText trace) ++ ((32 ∷ digits 16 digest) ++ (10 ∷ []))))

