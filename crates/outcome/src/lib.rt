@@ -2,5 +2,6 @@
 pub mod digest;
 pub mod hex;
 pub mod line;
+pub mod played;
 pub mod shown;
 pub mod words;

@@ -1,16 +1,13 @@
 //! Plays each tape on standard input on a new machine, and prints a line with everything that can be seen afterwards. A tape
 //! stands behind its length, 4 bytes, the more significant first.
-use bus::silent::{SilentBus, SilentBusBus};
-use console::machine::Machine;
 use model::{Cause, Record};
 use outcome::digest::store_digest;
 use outcome::line::add_line;
-use outcome::shown::shown_by;
+use outcome::played::play_new;
 use queue::Queue;
 use std::alloc::AllocError;
 use std::io;
 use std::io::{Read, Write};
-use store::boards::{CoreBoards, CoreBoardsStore};
 
 /// The tape at the front of the input, and what comes after it; none if the input is at its end, or cut short.
 fn next_tape(input: &[u8]) -> Option<(&[u8], &[u8])> {
@@ -24,29 +21,31 @@ fn next_tape(input: &[u8]) -> Option<(&[u8], &[u8])> {
     Some(rest.split_at(length))
 }
 
-/// Adds the line that a tape leaves. The words of the store are all zero before, and as the tape leaves them after.
-fn add_outcome(text: &mut Vec<u8>, tape: &[u8], words: &mut [u16], slots: &mut [Record]) -> Result<(), AllocError> {
-    let mut trace = Queue::new(slots);
-    let mut machine = Machine::make(CoreBoards::new(words), SilentBus {});
-    let ending = machine.play(tape, &mut trace);
-    let shown = shown_by(&mut machine);
-    add_line(text, ending, &shown, &trace, store_digest(words))
+/// Adds the line that a tape leaves, over a store of the words, which are zero.
+fn add_outcome(text: &mut Vec<u8>, tape: &[u8], words: &mut [u16]) -> Result<(), AllocError> {
+    let mut slots = [Record { cause: Cause::IllegalInstruction, status: 0, location: 0, faults: 0 }; 64];
+    let mut trace = Queue::new(&mut slots);
+    let outcome = play_new(tape, words, &mut trace);
+    add_line(text, outcome.ending, &outcome.shown, &trace, store_digest(words))
 }
 
 fn main(rt: LibcRuntime) -> io::Result<()> {
     let heap = rt.alloc();
-    let mut input = Vec::new(heap);
     let mut words = vec![in heap; 0u16; 32_768]?;
-    let mut slots = [Record { cause: Cause::IllegalInstruction, status: 0, location: 0, faults: 0 }; 64];
     let mut text = Vec::new(heap);
+    let mut input = Vec::new(heap);
     rt.stdin().read_to_end(&mut input)?;
     let mut rest = input.as_slice();
-    while let Some((tape, after)) = next_tape(rest) {
+    // Each tape takes 4 bytes or more, so there are no more tapes than bytes.
+    for _ in 0..input.len() {
+        let Some((tape, after)) = next_tape(rest) else {
+            break;
+        };
+        rest = after;
         words.fill(0);
         text.clear();
-        add_outcome(&mut text, tape, &mut words, &mut slots)?;
+        add_outcome(&mut text, tape, &mut words)?;
         rt.stdout().write_all(&text)?;
-        rest = after;
     }
     Ok(())
 }

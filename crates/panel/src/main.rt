@@ -1,17 +1,13 @@
 //! Plays the tape on standard input, and prints for a person what it did: how it ended, the registers, the interrupts and the
 //! store.
-use bus::meaning::Bus;
-use bus::silent::{SilentBus, SilentBusBus};
 use console::answers::denial_number;
-use console::machine::Machine;
 use model::{Cause, Record};
-use outcome::shown::{Shown, shown_by};
+use outcome::played::play_new;
+use outcome::shown::Shown;
 use outcome::words::{cause_words, denial_words};
 use queue::Queue;
 use std::io;
 use std::io::Read;
-use store::boards::{CoreBoards, CoreBoardsStore};
-use store::meaning::Store;
 use tape::orders::TapeFault;
 
 /// Reads into the buffer until it is full or the input ends, and says how many bytes there are.
@@ -53,11 +49,11 @@ fn print_ending(rt: &LibcRuntime, ending: Result<usize, TapeFault>) -> io::Resul
 /// Prints sixteen registers, eight to a line.
 fn print_registers(rt: &LibcRuntime, title: &str, registers: &[u32; 16]) -> io::Result<()> {
     println!(rt, "{title}")?;
-    for (number, register) in registers.iter().enumerate() {
+    for number in 0..16usize {
         if number % 8 == 0 {
             print!(rt, "{number:5}:")?;
         }
-        print!(rt, " {register:08X}")?;
+        print!(rt, " {:08X}", registers[number])?;
         if number % 8 == 7 {
             println!(rt, "")?;
         }
@@ -86,16 +82,33 @@ fn print_trace(rt: &LibcRuntime, trace: &Queue<'_, Record>) -> io::Result<()> {
     Ok(())
 }
 
-/// Prints the lines of eight halfwords that are not all zero, the real address of the first in front.
+/// Whether no halfword differs from zero.
+fn all_zero(words: &[u16]) -> bool {
+    for word in words {
+        if *word != 0 {
+            return false;
+        }
+    }
+    true
+}
+
+/// Prints eight halfwords, or fewer, behind their real address.
+fn print_halfwords(rt: &LibcRuntime, address: usize, words: &[u16]) -> io::Result<()> {
+    print!(rt, "{address:05X}:")?;
+    for word in words {
+        print!(rt, " {:04X}", *word)?;
+    }
+    println!(rt, "")
+}
+
+/// Prints the halfwords of the store, eight to a line; lines of zeros are left out.
 fn print_store(rt: &LibcRuntime, words: &[u16]) -> io::Result<()> {
     println!(rt, "Store, where it is not zero")?;
-    for (number, line) in words.chunks(8).enumerate() {
-        if line != &[0; 8] {
-            print!(rt, "{:05X}:", number * 16)?;
-            for word in line {
-                print!(rt, " {word:04X}")?;
+    for line in 0..4096usize {
+        if let Some(part) = words.get(8 * line..8 * line + 8) {
+            if !all_zero(part) {
+                print_halfwords(rt, 16 * line, part)?;
             }
-            println!(rt, "")?;
         }
     }
     Ok(())
@@ -104,9 +117,9 @@ fn print_store(rt: &LibcRuntime, words: &[u16]) -> io::Result<()> {
 /// Plays a tape on a new machine over the words and the slots, and prints what it did.
 fn print_played(rt: &LibcRuntime, tape: &[u8], words: &mut [u16], slots: &mut [Record]) -> io::Result<()> {
     let mut trace = Queue::new(slots);
-    let mut machine = Machine::make(CoreBoards::new(words), SilentBus {});
-    print_ending(rt, machine.play(tape, &mut trace))?;
-    print_shown(rt, &shown_by(&mut machine))?;
+    let outcome = play_new(tape, words, &mut trace);
+    print_ending(rt, outcome.ending)?;
+    print_shown(rt, &outcome.shown)?;
     print_trace(rt, &trace)?;
     print_store(rt, words)
 }
