@@ -1,4 +1,5 @@
 //! Input and output.
-pub mod bytes;
-pub mod named;
-pub mod words;
+pub mod input;
+mod named;
+pub mod output;
+pub mod sensing;

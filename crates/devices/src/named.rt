@@ -3,8 +3,8 @@ ghost use mathlib.Core.Bool.{false};
 ghost use Prim.Native.Nat.{_<_, _≤_};
 ghost use Rattle.std.specs.Options.{Cases as BySome};
 ghost use Rattle.std.specs.Vec.{made};
-ghost use Rattle.processor.specs.View.{Sets, GivesCalmly};
-ghost use Rattle.devices.specs.Devices.{noDevice, Names, endTree, statusTree};
+ghost use Rattle.processor.specs.View.{Sets};
+ghost use Rattle.devices.specs.Devices.{noDevice, Names, endTree};
 use bus::meaning::Bus;
 use fields::parts::device_number;
 use model::Trap;
@@ -22,7 +22,7 @@ fn no_device(n: u32) -> bool
 }
 
 /// The device that a register names, if it answers.
-pub fn device<S: Store, B: Bus>(m: &Core<S, B>, r1: u8) -> Result<Option<u8>, Trap>
+pub(crate) fn device<S: Store, B: Bus>(m: &Core<S, B>, r1: u8) -> Result<Option<u8>, Trap>
     ensures named { λ r. ⌜ Names (S·Store .meaning) (B·Bus .devices) r1 (now (m .entry)) r ⌝ }
     ensures first { λ r. ⌜ made r (λ d. BySome d (Unit {0}) (λ n. 1 ≤ n)) ⌝ }
 {
@@ -34,21 +34,19 @@ pub fn device<S: Store, B: Bus>(m: &Core<S, B>, r1: u8) -> Result<Option<u8>, Tr
     if m.answers(d)? { Ok(Some(d)) } else { Ok(None) }
 }
 
-/// The status of the device that a register names; 4 if it does not answer.
-pub fn status<S: Store, B: Bus>(m: &Core<S, B>, r1: u8) -> Result<u8, Trap>
-    ensures { λ r. ⌜ GivesCalmly (S·Store .meaning) (B·Bus .devices) (statusTree r1) (now (m .entry)) r (now (m .entry)) ⌝ }
-{
-    match device(m, r1)? {
-        None => Ok(4),
-        Some(d) => m.sense(d),
-    }
-}
-
 /// Goes on with a condition code.
-pub fn end<S: Store, B: Bus>(m: &mut Core<S, B>, code: u32, next: ProgramAddress)
+pub(crate) fn end<S: Store, B: Bus>(m: &mut Core<S, B>, code: u32, next: ProgramAddress)
     ensures does { λ _. ⌜ Sets (S·Store .meaning) (B·Bus .devices) (endTree code (next .at)) (now (m .entry)) (now (m .exit)) ⌝ }
     ensures quiet { λ _. ⌜ now (m .exit) .bus ≡ now (m .entry) .bus ⌝ }
 {
     m.set_code(code);
     m.jump(next);
+}
+
+/// Goes on where the device does not answer.
+pub(crate) fn absent<S: Store, B: Bus>(m: &mut Core<S, B>, next: ProgramAddress)
+    ensures does { λ _. ⌜ Sets (S·Store .meaning) (B·Bus .devices) (endTree 4 (next .at)) (now (m .entry)) (now (m .exit)) ⌝ }
+    ensures quiet { λ _. ⌜ now (m .exit) .bus ≡ now (m .entry) .bus ⌝ }
+{
+    end(m, 4, next);
 }

@@ -1,8 +1,10 @@
 //! Two buses joined as one.
 
 ghost use mathlib.Core.Path.{_≡_};
+ghost use mathlib.Core.Bool.{true, false};
 ghost use denote.Ref.{now};
 ghost use Rattle.joined.specs.Parts.{joined, lowerOf};
+ghost use Rattle.model.specs.Buses.{changed, wasRead, wasWritten, wasCommanded};
 use bus::meaning::Bus;
 
 /// Two buses as one: a device that answers on the first is the first's in everything, any other is the second's.
@@ -85,7 +87,14 @@ pub impl<A: Bus, B: Bus> Bus for JoinedBus<A, B> as JoinedBusBus {
         None
     }
 
-    fn read(&mut self, device: u8) -> u8 {
+    /// The bus that does not have the device stays as it is.
+    fn read(&mut self, device: u8) -> u8
+        requires { ⌜ joined (A·Bus .devices (now self .first)) (B·Bus .devices (now self .second)) device .answers ≡ true ⌝ }
+        ensures value { λ r. ⌜ r ≡ joined (A·Bus .devices (now (self .entry) .first)) (B·Bus .devices (now (self .entry) .second)) device .offer ⌝ }
+        ensures counted { λ _. ⌜ joined (A·Bus .devices (now (self .exit) .first)) (B·Bus .devices (now (self .exit) .second)) ≡ changed (joined (A·Bus .devices (now (self .entry) .first)) (B·Bus .devices (now (self .entry) .second))) device (wasRead (joined (A·Bus .devices (now (self .exit) .first)) (B·Bus .devices (now (self .exit) .second)) device) (joined (A·Bus .devices (now (self .entry) .first)) (B·Bus .devices (now (self .entry) .second)) device)) ⌝ }
+        ensures before { λ _. ⌜ (A·Bus .devices (now (self .entry) .first) device .answers ≡ false → now (self .exit) .first ≡ now (self .entry) .first) ⌝ }
+        ensures after { λ _. ⌜ (A·Bus .devices (now (self .entry) .first) device .answers ≡ true → now (self .exit) .second ≡ now (self .entry) .second) ⌝ }
+    {
         if self.first.answers(device) {
             self.first.read(device)
         } else {
@@ -93,7 +102,13 @@ pub impl<A: Bus, B: Bus> Bus for JoinedBus<A, B> as JoinedBusBus {
         }
     }
 
-    fn write(&mut self, device: u8, byte: u8) {
+    /// The bus that does not have the device stays as it is.
+    fn write(&mut self, device: u8, byte: u8)
+        requires { ⌜ joined (A·Bus .devices (now self .first)) (B·Bus .devices (now self .second)) device .answers ≡ true ⌝ }
+        ensures counted { λ _. ⌜ joined (A·Bus .devices (now (self .exit) .first)) (B·Bus .devices (now (self .exit) .second)) ≡ changed (joined (A·Bus .devices (now (self .entry) .first)) (B·Bus .devices (now (self .entry) .second))) device (wasWritten byte (joined (A·Bus .devices (now (self .exit) .first)) (B·Bus .devices (now (self .exit) .second)) device) (joined (A·Bus .devices (now (self .entry) .first)) (B·Bus .devices (now (self .entry) .second)) device)) ⌝ }
+        ensures before { λ _. ⌜ (A·Bus .devices (now (self .entry) .first) device .answers ≡ false → now (self .exit) .first ≡ now (self .entry) .first) ⌝ }
+        ensures after { λ _. ⌜ (A·Bus .devices (now (self .entry) .first) device .answers ≡ true → now (self .exit) .second ≡ now (self .entry) .second) ⌝ }
+    {
         if self.first.answers(device) {
             self.first.write(device, byte);
         } else {
@@ -101,7 +116,13 @@ pub impl<A: Bus, B: Bus> Bus for JoinedBus<A, B> as JoinedBusBus {
         }
     }
 
-    fn command(&mut self, device: u8, byte: u8) {
+    /// The bus that does not have the device stays as it is.
+    fn command(&mut self, device: u8, byte: u8)
+        requires { ⌜ joined (A·Bus .devices (now self .first)) (B·Bus .devices (now self .second)) device .answers ≡ true ⌝ }
+        ensures counted { λ _. ⌜ joined (A·Bus .devices (now (self .exit) .first)) (B·Bus .devices (now (self .exit) .second)) ≡ changed (joined (A·Bus .devices (now (self .entry) .first)) (B·Bus .devices (now (self .entry) .second))) device (wasCommanded byte (joined (A·Bus .devices (now (self .exit) .first)) (B·Bus .devices (now (self .exit) .second)) device) (joined (A·Bus .devices (now (self .entry) .first)) (B·Bus .devices (now (self .entry) .second)) device)) ⌝ }
+        ensures before { λ _. ⌜ (A·Bus .devices (now (self .entry) .first) device .answers ≡ false → now (self .exit) .first ≡ now (self .entry) .first) ⌝ }
+        ensures after { λ _. ⌜ (A·Bus .devices (now (self .entry) .first) device .answers ≡ true → now (self .exit) .second ≡ now (self .entry) .second) ⌝ }
+    {
         if self.first.answers(device) {
             self.first.command(device, byte);
         } else {

@@ -40,8 +40,8 @@ fn store_registers<S: Store, B: Bus>(
     ensures quiet { λ _. ⌜ now (m .exit) .bus ≡ now (m .entry) .bus ⌝ }
 {
     let mut a = from;
-    for n in r1..16 {
-        let value = m.reg(n);
+    for number in r1..16 {
+        let value = m.reg(number);
         store_full(m, a, value)?;
         a = a.plus(4);
     }

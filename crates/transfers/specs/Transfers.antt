@@ -1,9 +1,9 @@
 -- Moves between registers and the store, single bits, and the branches on an index.
 use mathlib.Core.Bool.{cond}
 use Prim.Native.Nat.{ℕ, _+_, _*_}
-use lib.Dec.{ltb}
+use lib.Dec.{eqb, ltb}
 use Rattle.model.specs.Status.{address, toHalf, toFull}
-use Rattle.model.specs.Effects.{Prog, reg, setReg, setCode, jump, load, store, seq}
+use Rattle.model.specs.Effects.{Prog, ret, asNumber, reg, setReg, setCode, jump, load, store, seq}
 use Rattle.registers.specs.Parity.{isOdd}
 use Rattle.processor.specs.Writes.{put, putByte}
 use Rattle.words.specs.Sums.{sum, sumCode, compareLogicalCode, extended}
@@ -84,17 +84,17 @@ rbtTree r1 a next = seq (reg r1) (λ n. seq (load (bitPlace a n)) (λ h. written
 abbrev pub cbtTree : ℕ → ℕ → ℕ → Prog
 cbtTree r1 a next = seq (reg r1) (λ n. seq (load (bitPlace a n)) (λ h. writtenTree (bitPlace a n) (withBitFlipped n h) (2 * bitOf n h) next))
 
--- ── Branches on an index: r1 rises by the next register, and is compared, as a number from 0 on, with the one after that ──
+-- ── Branches on an index ──
+-- Register r rises by the next register; 1 if it is then above the one after that, as numbers from 0 on, else 0.
+abbrev pub raiseTree : ℕ → Prog
+raiseTree r =
+    seq (reg r) (λ x.
+    seq (reg (following r 1)) (λ y.
+    seq (reg (following r 2)) (λ limit.
+    then (setReg r (sum x y)) (ret (asNumber (ltb limit (sum x y)))))))
+
 abbrev pub bxhTree : ℕ → ℕ → ℕ → Prog
-bxhTree r1 a next =
-    seq (reg r1) (λ x.
-    seq (reg (following r1 1)) (λ y.
-    seq (reg (following r1 2)) (λ limit.
-    then (setReg r1 (sum x y)) (cond (ltb limit (sum x y)) (jump a) (jump next)))))
+bxhTree r1 a next = seq (raiseTree r1) (λ above. cond (eqb above 0) (jump next) (jump a))
 
 abbrev pub bxleTree : ℕ → ℕ → ℕ → Prog
-bxleTree r1 a next =
-    seq (reg r1) (λ x.
-    seq (reg (following r1 1)) (λ y.
-    seq (reg (following r1 2)) (λ limit.
-    then (setReg r1 (sum x y)) (cond (ltb limit (sum x y)) (jump next) (jump a)))))
+bxleTree r1 a next = seq (raiseTree r1) (λ above. cond (eqb above 0) (jump a) (jump next))

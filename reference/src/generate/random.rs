@@ -105,13 +105,19 @@ fn status(chance: &mut Chance, relocated: bool) -> u32 {
 /// New PSWs that mostly lead back into the program.
 fn vectors(chance: &mut Chance, writer: &mut Writer, relocated: bool) {
     for vector in [0x30, 0x48, 0x90] {
-        let new = [status(chance, relocated), handler(chance)];
+        let new = [new_status(chance, relocated), handler(chance)];
         writer.fullwords(vector, &new);
     }
-    writer.fullwords(0x98, &[status(chance, relocated)]);
+    writer.fullwords(0x98, &[new_status(chance, relocated)]);
     for _ in 0..16 {
         writer.deposit(handler(chance) as u16);
     }
+}
+
+/// Relocation is often off in a new PSW, so that the controller can be reached.
+fn new_status(chance: &mut Chance, relocated: bool) -> u32 {
+    let relocated = relocated && chance.percent(60);
+    status(chance, relocated)
 }
 
 fn handler(chance: &mut Chance) -> u32 {
@@ -152,9 +158,10 @@ fn value(chance: &mut Chance) -> u32 {
 
 /// An address of 20 bits, mostly in memory that a program uses.
 fn address(chance: &mut Chance) -> u32 {
-    let in_segment = match chance.below(12) {
+    let in_segment = match chance.below(13) {
         0 => chance.below(0x100),
         1 => 0x2F8 + chance.below(0x110),
+        12 => 0x338 + chance.below(0x10),
         2 => PROGRAM + chance.below(0x80),
         3 => 0xFFE0 + chance.below(0x20),
         4 => chance.below(0x1_0000),

@@ -8,19 +8,19 @@ returns-in-Break-store-full g c =
     record {
       does =
           λ reply.
-          let e = stores-more (c .loop-n .n) (c .loop-n .a .at) (omega arith) in
-          let rest = rw e at (c .loop-n .inv .1 reply) in
+          let e = stores-more (c .loop-number .number) (c .loop-number .a .at) (omega arith) in
+          let rest = rw e at (c .loop-number .inv .1 reply) in
           let done = c .store-full .ensures .does reply in
           search needs;
       quiet = search needs;
     }
 
-pub loop-n-again : need.loop-n-again
-loop-n-again g c = (
+pub loop-number-again : need.loop-number-again
+loop-number-again g c = (
   search needs,
   λ reply.
-      let e = stores-more (c .loop-n .n) (c .loop-n .a .at) (omega arith) in
-      let rest = rw e at (c .loop-n .inv .1 reply) in
+      let e = stores-more (c .loop-number .number) (c .loop-number .a .at) (omega arith) in
+      let rest = rw e at (c .loop-number .inv .1 reply) in
       let done = c .store-full .ensures .does reply in
       search needs,
 )
@@ -30,8 +30,8 @@ returns g c =
     record {
       does =
           λ reply.
-          let e = stores-none (c .loop-n .n) (c .loop-n .a .at) (omega arith) in
-          let rest = rw e at (c .loop-n .inv .1 reply) in
+          let e = stores-none (c .loop-number .number) (c .loop-number .a .at) (omega arith) in
+          let rest = rw e at (c .loop-number .inv .1 reply) in
           search needs;
       quiet = search needs;
     }

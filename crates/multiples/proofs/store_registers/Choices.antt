@@ -7,7 +7,7 @@ use Rattle.multiples.specs.Multiples.{stores}
 use Rattle.multiples.proofs.store_registers.Given as given
 
 -- What is left to do is what was to be done.
-abbrev pub Inv-loop-n : given.InvT-loop-n
-Inv-loop-n g l =
+abbrev pub Inv-loop-number : given.InvT-loop-number
+Inv-loop-number g l =
     (l .m .bus ≡ l .entry .m .bus)
-    × ((reply : Bus) → run reply (stores (16 - l .n) (l .n) (l .a .at)) (stateOf (g .S·Store .meaning) (g .B·Bus .devices) (l .m)) ≡ run reply (stores (16 - l .r1) (l .r1) (l .entry .a .at)) (stateOf (g .S·Store .meaning) (g .B·Bus .devices) (l .entry .m)))
+    × ((reply : Bus) → run reply (stores (16 - l .number) (l .number) (l .a .at)) (stateOf (g .S·Store .meaning) (g .B·Bus .devices) (l .m)) ≡ run reply (stores (16 - l .r1) (l .r1) (l .entry .a .at)) (stateOf (g .S·Store .meaning) (g .B·Bus .devices) (l .entry .m)))

@@ -24,14 +24,16 @@ fn operands(tapes: &mut Tapes) {
     for code in codes_of(Form::Rx) {
         for digit in 0..16 {
             for limit in [0x0F, 0x10, 0xFF] {
-                let scene = Scene::relocated(varied_status(tapes.len()));
-                let scene = scene
-                    .segment(1, segment(limit, 0x020, digit))
-                    .register(12, 5)
-                    .register(13, 0x1234_5678)
-                    .fullwords(0x3000, &[0x8000_0100, 0x0040_1235, 0x8001_7FFE]);
-                let way = [Way::DirectIndexed, Way::RelativeIndexed, Way::Long][tapes.len() % 3];
-                tapes.extend(scene.reaching(way, code.number, 12, OPERAND));
+                for operand in [0x0040_1235, 0xFFFF_FFFF] {
+                    let scene = Scene::relocated(varied_status(tapes.len()))
+                        .segment(1, segment(limit, 0x020, digit))
+                        .register(12, 5)
+                        .register(13, 0x1234_5678)
+                        .fullwords(0x3000, &[0x8000_0100, operand, 0x8001_7FFE]);
+                    let ways = [Way::DirectIndexed, Way::RelativeIndexed, Way::Long];
+                    let way = ways[tapes.len() % ways.len()];
+                    tapes.extend(scene.reaching(way, code.number, 12, OPERAND));
+                }
             }
         }
     }

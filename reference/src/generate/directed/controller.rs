@@ -1,4 +1,5 @@
-//! The controller's registers at X'300' to X'3FF', with relocation off.
+//! The controller's registers at X'300' to X'3FF' with relocation off; with relocation on, the
+//! same addresses are ordinary store.
 
 use super::*;
 use crate::generate::writer::{first, ri2, rx1, rx3};
@@ -8,6 +9,7 @@ pub(super) fn add(tapes: &mut Tapes) {
     fetches(tapes);
     fetches_across(tapes);
     loaded_segments(tapes);
+    ordinary_store(tapes);
 }
 
 impl Scene {
@@ -117,5 +119,24 @@ fn loaded_segments(tapes: &mut Tapes) {
             )
             .halfwords(START, &program.concat());
         tapes.push(scene.run(START, 6));
+    }
+}
+
+/// With relocation on, fetches, reads and writes at these addresses reach the store.
+fn ordinary_store(tapes: &mut Tapes) {
+    for location in [0x2FE, 0x300, 0x33E, 0x340, 0x342, 0x3FE] {
+        let scene = Scene::new(RELOCATION | 3)
+            .with_interrupt_status()
+            .halfwords(location, &ri2(code("LI"), 3, 0, 0x1234_5678));
+        tapes.push(scene.run(location, 1));
+    }
+    for name in ["L", "LB", "ST", "STB", "AM", "TS", "LM", "STM"] {
+        for address in places() {
+            let scene = Scene::new(RELOCATION | 3)
+                .with_interrupt_status()
+                .all_registers()
+                .fullwords(0x340, &[0x1122_3344, 0x5566_7788]);
+            tapes.extend(scene.reaching(Way::Direct, code(name), 14, address));
+        }
     }
 }

@@ -117,6 +117,10 @@ fn alignments(tapes: &mut Tapes) {
 
 /// Addresses at their edges, in every way, as LA, BAL and SVC show them.
 fn addresses(tapes: &mut Tapes) {
+    /// Second halfwords of all three forms, with and without a second index.
+    const SECONDS: [u16; 10] = [
+        0x0000, 0x3FFF, 0x8000, 0xBFFF, 0xC000, 0xFFFF, 0x4AFF, 0x7A00, 0x7000, 0x50FF,
+    ];
     for name in ["LA", "BAL", "SVC"] {
         for way in WAYS {
             for address in [0, 1, 2, START, 0x3FFF, 0x4000, 0xFFFF, 0x1_0000, 0xF_FFFF] {
@@ -125,11 +129,12 @@ fn addresses(tapes: &mut Tapes) {
             }
         }
         for index in EDGES {
-            for second in [
-                0x0000, 0x3FFF, 0x8000, 0xBFFF, 0xC000, 0xFFFF, 0x7A00, 0x4AFF,
-            ] {
-                let scene = Scene::new(varied_status(tapes.len())).register(10, index);
-                tapes.push(scene.instruction(&[first(code(name), 1, 10), second, 0xFFFF]));
+            for second in SECONDS {
+                for x2 in [0, 10] {
+                    let scene = Scene::new(varied_status(tapes.len()));
+                    let scene = scene.register(0, 0x0055_5555).register(10, index);
+                    tapes.push(scene.instruction(&[first(code(name), 1, x2), second, 0xFFFF]));
+                }
             }
         }
     }
