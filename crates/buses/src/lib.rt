@@ -1,4 +1,6 @@
 //! Buses: the teletype and the drives.
+#![tactic(auto)]
+
 pub mod drives;
 pub mod teletype;
 pub mod usage;

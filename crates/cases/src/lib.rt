@@ -1,4 +1,5 @@
 //! Cases of the definitions that the instructions are proved by.
+#![tactic(auto)]
 
 ghost use Rattle.cases.specs.Cases.{WorkedCases};
 ghost use Rattle.cases.specs.Further.{FurtherCases};

@@ -1,4 +1,6 @@
 //! Two machines side by side: histories, then lists of calls, and how far the answers agree.
+#![tactic(auto)]
+
 pub mod calls;
 pub mod compare;
 mod follow;

@@ -1,4 +1,6 @@
 //! Calls on a machine and whole tapes, with what each answers and leaves.
+#![tactic(auto)]
+
 #[cfg(test)]
 mod calls;
 #[cfg(test)]

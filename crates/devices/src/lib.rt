@@ -1,4 +1,6 @@
 //! Input and output.
+#![tactic(auto)]
+
 pub mod input;
 mod named;
 pub mod output;

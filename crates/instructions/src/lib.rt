@@ -1,4 +1,6 @@
 //! The instructions, by their forms.
+#![tactic(auto)]
+
 pub mod execute;
 pub mod immediates;
 pub mod memory;

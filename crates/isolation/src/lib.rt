@@ -1,4 +1,5 @@
 //! A protected program is isolated from all that is not its own.
+#![tactic(auto)]
 
 ghost use Rattle.isolation.specs.Example.{Example};
 ghost use Rattle.isolation.specs.Isolation.{Isolation};

@@ -1,4 +1,5 @@
 //! Two buses joined as one.
+#![tactic(auto)]
 
 ghost use Rattle.std.specs.Prelude.{◌≡◌, true, false};
 ghost use Rattle.joined.specs.Parts.{joined, lower_of};

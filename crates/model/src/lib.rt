@@ -1,5 +1,6 @@
 //! The words that the machine's definitions and its code share: what a store, an access, an interrupt and an answer can be. And
 //! the law above the definitions: a protected program is isolated from all that is not its own.
+#![tactic(auto)]
 
 ghost use Rattle.model.specs.Isolation.{Isolation};
 

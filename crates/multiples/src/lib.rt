@@ -1,4 +1,5 @@
 //! The registers from one on to register 15, and the fullwords from an address on.
+#![tactic(auto)]
 
 ghost use Rattle.core.specs.Prelude.{◌≡◌, ◌-◌};
 ghost use Rattle.processor.specs.View.{Does, DoesCalmly};

@@ -1,4 +1,6 @@
 //! One protected program beside two different neighbours: on core boards with a silent bus, and on a byte image with a teletype.
+#![tactic(auto)]
+
 use bus::silent::SilentBus;
 use buses::teletype::Teletype;
 use comparison::calls::{Call, Continued};

@@ -1,4 +1,6 @@
 //! What instructions share: indexes and addresses, fullwords in the store, the functions of the families, and branches.
+#![tactic(auto)]
+
 pub mod addresses;
 pub mod branches;
 pub mod functions;

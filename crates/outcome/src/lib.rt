@@ -1,4 +1,6 @@
 //! What a tape leaves, as text: numbers in hexadecimal, denials and causes in words, and the line of an outcome.
+#![tactic(auto)]
+
 pub mod digest;
 pub mod hex;
 pub mod line;

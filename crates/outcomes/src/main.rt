@@ -1,5 +1,7 @@
 //! Plays each tape on standard input on a new machine, and prints a line with everything that can be seen afterwards. A tape
 //! stands behind its length, 4 bytes, the more significant first.
+#![tactic(auto)]
+
 use model::{Cause, Record};
 use outcome::digest::store_digest;
 use outcome::line::add_line;

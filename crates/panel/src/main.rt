@@ -1,5 +1,7 @@
 //! Plays the tape on standard input, and prints for a person what it did: how it ended, the registers, the interrupts and the
 //! store.
+#![tactic(auto)]
+
 use console::answers::denial_number;
 use model::{Cause, Record};
 use outcome::played::play_new;

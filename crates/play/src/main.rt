@@ -1,4 +1,6 @@
 //! Plays the tape on standard input, and prints the Location Counter and the status that it leaves.
+#![tactic(auto)]
+
 use model::{Cause, Record};
 use session::session::play_to_line;
 use std::io;

@@ -1,4 +1,5 @@
 //! A queue over lent slots: first in, first out.
+#![tactic(auto)]
 
 ghost use Rattle.std.specs.Prelude.{◌≡◌, ◌+◌, ◌-◌, ◌<◌, ◌≤◌, min, true, false, ◌⊎◌, [], ◌∷◌, ◌++◌, length, drop, MatchOption, ◌==◌, nat_le, nat_lt, slice_index_or};
 ghost use Rattle.queue.specs.Rows.{queued, capacity};

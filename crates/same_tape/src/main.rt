@@ -1,4 +1,6 @@
 //! Plays the tape on standard input over every kind of store, and prints what each answers and holds: the same, whatever the store.
+#![tactic(auto)]
+
 use bus::meaning::Bus;
 use bus::silent::SilentBus;
 use console::answers::{cause_number, denial_number};

@@ -1,4 +1,5 @@
 //! Shifts and rotates of a fullword, and the condition codes that they set. A count is taken modulo 32.
+#![tactic(auto)]
 
 ghost use Rattle.std.specs.Prelude.{◌≡◌, ◌+◌, ◌*◌, ◌%◌, ◌<◌, ◌≤◌};
 ghost use Rattle.words.specs.Sums.{marks};

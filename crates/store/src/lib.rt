@@ -1,3 +1,5 @@
 //! Stores: what every store promises, and core boards.
+#![tactic(auto)]
+
 pub mod boards;
 pub mod meaning;

@@ -1,4 +1,6 @@
 //! The tape: its bytes read as commands.
+#![tactic(auto)]
+
 pub mod commands;
 pub mod faults;
 pub mod orders;

@@ -1,4 +1,6 @@
 //! Moves between registers and the store, single bits, and the branches on an index.
+#![tactic(auto)]
+
 pub mod between;
 pub mod bits;
 pub mod loops;

@@ -1,4 +1,5 @@
 //! Arithmetic on fullwords and the condition codes that it sets.
+#![tactic(auto)]
 
 pub mod laws;
 pub mod products;
