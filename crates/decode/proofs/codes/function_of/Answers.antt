@@ -34,6 +34,6 @@ pub returns-in-11 : goal.returns-in-11
 unfolding function_of
 returns-in-11 c = search rules
 
-pub returns-in-default : goal.returns-in-default
+pub returns-in_default : goal.returns-in_default
 unfolding function_of
-returns-in-default c = search rules
+returns-in_default c = search rules

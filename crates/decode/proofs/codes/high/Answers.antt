@@ -86,6 +86,6 @@ pub returns-in-239 : goal.returns-in-239
 unfolding high
 returns-in-239 c = search rules
 
-pub returns-in-default : goal.returns-in-default
+pub returns-in_default : goal.returns-in_default
 unfolding high
-returns-in-default c = search rules
+returns-in_default c = search rules

@@ -2,25 +2,25 @@ use Rattle.decode.specs.Codes.{is_privileged}
 use Rattle.std.proofs.Common.{rules}
 use Rattle.decode.proofs.codes.is_privileged.Goals as goal
 
-pub returns-in-default : goal.returns-in-default
+pub returns-in_default : goal.returns-in_default
 unfolding is_privileged
-returns-in-default c = search rules
+returns-in_default c = search rules
 
-pub returns-in-default·2 : goal.returns-in-default·2
+pub returns-in_default·2 : goal.returns-in_default·2
 unfolding is_privileged
-returns-in-default·2 c = search rules
+returns-in_default·2 c = search rules
 
-pub returns-in-default·3 : goal.returns-in-default·3
+pub returns-in_default·3 : goal.returns-in_default·3
 unfolding is_privileged
-returns-in-default·3 c = search rules
+returns-in_default·3 c = search rules
 
-pub returns-in-default·4 : goal.returns-in-default·4
+pub returns-in_default·4 : goal.returns-in_default·4
 unfolding is_privileged
-returns-in-default·4 c = search rules
+returns-in_default·4 c = search rules
 
-pub returns-in-default·5 : goal.returns-in-default·5
+pub returns-in_default·5 : goal.returns-in_default·5
 unfolding is_privileged
-returns-in-default·5 c = search rules
+returns-in_default·5 c = search rules
 
 pub returns-in-24 : goal.returns-in-24
 unfolding is_privileged

@@ -70,6 +70,6 @@ pub returns-in-52 : goal.returns-in-52
 unfolding low
 returns-in-52 c = search rules
 
-pub returns-in-default : goal.returns-in-default
+pub returns-in_default : goal.returns-in_default
 unfolding low
-returns-in-default c = search rules
+returns-in_default c = search rules

@@ -58,6 +58,6 @@ pub returns-in-119 : goal.returns-in-119
 unfolding middle
 returns-in-119 c = search rules
 
-pub returns-in-default : goal.returns-in-default
+pub returns-in_default : goal.returns-in_default
 unfolding middle
-returns-in-default c = search rules
+returns-in_default c = search rules

@@ -2,9 +2,9 @@ use Rattle.decode.specs.Codes.{permitted}
 use Rattle.std.proofs.Common.{rules}
 use Rattle.decode.proofs.codes.operation.Goals as goal
 
-pub returns-then-is-privileged : goal.returns-then-is-privileged
+pub returns-then-is_privileged : goal.returns-then-is_privileged
 unfolding permitted
-returns-then-is-privileged c = search rules
+returns-then-is_privileged c = search rules
 
 pub returns-in-4-to-11 : goal.returns-in-4-to-11
 unfolding permitted
@@ -30,9 +30,9 @@ pub returns-in-243-to-251 : goal.returns-in-243-to-251
 unfolding permitted
 returns-in-243-to-251 c = search rules
 
-pub returns-in-default-2 : goal.returns-in-default-2
+pub returns-in_default-2 : goal.returns-in_default-2
 unfolding permitted
-returns-in-default-2 c = search rules
+returns-in_default-2 c = search rules
 
 pub returns-in-64-to-127 : goal.returns-in-64-to-127
 unfolding permitted

@@ -34,6 +34,6 @@ pub returns-in-158 : goal.returns-in-158
 unfolding upper
 returns-in-158 c = search rules
 
-pub returns-in-default : goal.returns-in-default
+pub returns-in_default : goal.returns-in_default
 unfolding upper
-returns-in-default c = search rules
+returns-in_default c = search rules

@@ -3,13 +3,13 @@ use Rattle.fields.specs.Bits.{with_bit}
 use Rattle.fields.proofs.Places.{weight_fits}
 use Rattle.fields.proofs.bits.with_bit.Goals as goal
 
-pub overflow-add-result : goal.overflow-add-result
-overflow-add-result c = search (rules, weight_fits c.args.n c.args.h)
+pub overflow_add-result : goal.overflow_add-result
+overflow_add-result c = search (rules, weight_fits c.args.n c.args.h)
 
-pub returns-then-bit-of-eq0 : goal.returns-then-bit-of-eq0
+pub returns-then-bit_of-eq0 : goal.returns-then-bit_of-eq0
 unfolding with_bit
-returns-then-bit-of-eq0 c = search rules
+returns-then-bit_of-eq0 c = search rules
 
-pub returns-else-bit-of-eq0 : goal.returns-else-bit-of-eq0
+pub returns-else-bit_of-eq0 : goal.returns-else-bit_of-eq0
 unfolding with_bit
-returns-else-bit-of-eq0 c = search rules
+returns-else-bit_of-eq0 c = search rules

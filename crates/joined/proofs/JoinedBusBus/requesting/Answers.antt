@@ -3,9 +3,9 @@ use Rattle.bus.proofs.Searches.{lowest_found, lowest_missing, lowest_none_last}
 use Rattle.joined.proofs.Joins.{joined_quiet}
 use Rattle.joined.proofs.JoinedBusBus.requesting.Goals as goal
 
-pub returns-in-default : goal.returns-in-default
-returns-in-default g c =
-    sym (lowest_missing _ (joined_quiet _ _ c.requesting.result c.requesting-2.result None c.requesting.ensures c.requesting-2.ensures c.in-default.ensures))
+pub returns-in_default : goal.returns-in_default
+returns-in_default g c =
+    sym (lowest_missing _ (joined_quiet _ _ c.requesting.result c.requesting-2.result None c.requesting.ensures c.requesting-2.ensures c.in_default.ensures))
 
 pub loop-device-init : goal.loop-device-init
 loop-device-init g c =

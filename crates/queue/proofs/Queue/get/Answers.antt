@@ -8,5 +8,5 @@ returns-then-index-n g c = simp held_length (omega arith)
 pub returns : goal.returns
 returns g c = (
   simp held_length (omega arith),
-  c.item-at.ensures ∙ sym (held_at c.args.self.now.slots.now c.args.self.now.head c.args.self.now.count c.least-i.result c.least-n.result c.args.index c.place.result c.item-at.result c.least-i.ensures c.least-n.ensures (omega arith) c.place.ensures.inside c.place.ensures.turned),
+  c.item_at.ensures ∙ sym (held_at c.args.self.now.slots.now c.args.self.now.head c.args.self.now.count c.least-i.result c.least-n.result c.args.index c.place.result c.item_at.result c.least-i.ensures c.least-n.ensures (omega arith) c.place.ensures.inside c.place.ensures.turned),
 )

@@ -2,37 +2,37 @@ use Rattle.std.proofs.Common.{rules}
 use Rattle.model.specs.Tapes.{command_of}
 use Rattle.tape.proofs.commands.read_command.Goals as goal
 
-pub returns-in-default-three : goal.returns-in-default-three
+pub returns-in_default-three : goal.returns-in_default-three
 unfolding command_of
-returns-in-default-three c = λ low place more. search rules
+returns-in_default-three c = λ low place more. search rules
 
-pub returns-in-default-two : goal.returns-in-default-two
+pub returns-in_default-two : goal.returns-in_default-two
 unfolding command_of
-returns-in-default-two c = λ low place more. search rules
+returns-in_default-two c = λ low place more. search rules
 
-pub returns-in-default-five : goal.returns-in-default-five
+pub returns-in_default-five : goal.returns-in_default-five
 unfolding command_of
-returns-in-default-five c = λ low place more. search rules
+returns-in_default-five c = λ low place more. search rules
 
-pub returns-in-default-five-2 : goal.returns-in-default-five-2
+pub returns-in_default-five-2 : goal.returns-in_default-five-2
 unfolding command_of
-returns-in-default-five-2 c = λ low place more. search rules
+returns-in_default-five-2 c = λ low place more. search rules
 
-pub returns-in-default-four : goal.returns-in-default-four
+pub returns-in_default-four : goal.returns-in_default-four
 unfolding command_of
-returns-in-default-four c = λ low place more. search rules
+returns-in_default-four c = λ low place more. search rules
 
-pub returns-in-default-three-2 : goal.returns-in-default-three-2
+pub returns-in_default-three-2 : goal.returns-in_default-three-2
 unfolding command_of
-returns-in-default-three-2 c = λ low place more. search rules
+returns-in_default-three-2 c = λ low place more. search rules
 
-pub returns-in-default-three-3 : goal.returns-in-default-three-3
+pub returns-in_default-three-3 : goal.returns-in_default-three-3
 unfolding command_of
-returns-in-default-three-3 c = λ low place more. search rules
+returns-in_default-three-3 c = λ low place more. search rules
 
-pub returns-in-default : goal.returns-in-default
+pub returns-in_default : goal.returns-in_default
 unfolding command_of
-returns-in-default c = λ low place more. search rules
+returns-in_default c = λ low place more. search rules
 
 pub returns-in-Some : goal.returns-in-Some
 unfolding command_of

@@ -6,9 +6,9 @@ pub returns-then-by-eq0 : goal.returns-then-by-eq0
 unfolding divided quotient remainder
 returns-then-by-eq0 c = search rules
 
-pub returns-in-err-q : goal.returns-in-err-q
+pub returns-in_err-q : goal.returns-in_err-q
 unfolding divided quotient remainder
-returns-in-err-q c = search rules
+returns-in_err-q c = search rules
 
 pub returns-then-q-ltminus2147483648 : goal.returns-then-q-ltminus2147483648
 unfolding divided quotient remainder
