@@ -3,4 +3,4 @@ use Rattle.shifts.proofs.Turns.{left_by_parts}
 use Rattle.shifts.proofs.rotate_left.Goals as goal
 
 pub returns : goal.returns
-returns c = c.rotate-left.ensures ∙ left_by_parts c.args.v (c.args.count % 32) (omega arith) (omega arith)
+returns c = c.rotate_left.ensures ∙ left_by_parts c.args.v (c.args.count % 32) (omega arith) (omega arith)
