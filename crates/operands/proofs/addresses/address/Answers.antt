@@ -5,4 +5,4 @@ use Rattle.operands.proofs.addresses.address.Goals as goal
 
 pub returns : goal.returns
 unfolding address_tree
-returns g c = let e = address_same c.address-of.result c.address-of.ensures.small in search (rules, e)
+returns g c = let e = address_same c.address_of.result c.address_of.ensures.small in search (rules, e)

@@ -2,9 +2,9 @@ use Rattle.operands.specs.Operands.{load_byte}
 use Rattle.std.proofs.Common.{rules}
 use Rattle.operands.proofs.addresses.load_byte.Goals as goal
 
-pub returns-in-err-half : goal.returns-in-err-half
+pub returns-in_err-half : goal.returns-in_err-half
 unfolding load_byte
-returns-in-err-half g c = search rules
+returns-in_err-half g c = search rules
 
 pub returns : goal.returns
 unfolding load_byte

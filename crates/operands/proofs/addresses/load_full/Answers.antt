@@ -2,13 +2,13 @@ use Rattle.operands.specs.Operands.{load_full}
 use Rattle.std.proofs.Common.{rules}
 use Rattle.operands.proofs.addresses.load_full.Goals as goal
 
-pub returns-in-err-high : goal.returns-in-err-high
+pub returns-in_err-high : goal.returns-in_err-high
 unfolding load_full
-returns-in-err-high g c = search rules
+returns-in_err-high g c = search rules
 
-pub returns-in-err-low : goal.returns-in-err-low
+pub returns-in_err-low : goal.returns-in_err-low
 unfolding load_full
-returns-in-err-low g c = search rules
+returns-in_err-low g c = search rules
 
 pub returns : goal.returns
 unfolding load_full

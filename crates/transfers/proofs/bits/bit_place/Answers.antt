@@ -3,9 +3,9 @@ use Rattle.transfers.specs.Transfers.{bit_place}
 use borrow.Author.Rules.{rules}
 use Rattle.transfers.proofs.bits.bit_place.Goals as goal
 
-pub overflow-add-number : goal.overflow-add-number
+pub overflow_add-number : goal.overflow_add-number
 unfolding bit_offset
-overflow-add-number c = search rules
+overflow_add-number c = search rules
 
 pub returns : goal.returns
 unfolding bit_place
