@@ -1,5 +1,5 @@
 -- A privileged code is decided before its body: taking it for illegal under protection is stopping it there.
-use Rattle.core.specs.Prelude.{◌≡◌, ℕ, Bool, true, false, cond, ◌&&◌}
+use Rattle.std.specs.Prelude.{◌≡◌, ℕ, Bool, true, false, cond, ◌&&◌}
 use Rattle.model.specs.Buses.{Bus}
 use Rattle.model.specs.States.{State}
 use Rattle.model.specs.Status.{protected}

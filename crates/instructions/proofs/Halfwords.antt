@@ -1,5 +1,5 @@
 -- The halfwords that were fetched are the parts of the instruction.
-use Rattle.core.specs.Prelude.{◌≡◌, ℕ, Bool, true, false, cond, ltb, List, [], ◌∷◌}
+use Rattle.std.specs.Prelude.{◌≡◌, ℕ, Bool, true, false, cond, ltb, List, [], ◌∷◌}
 use mathlib.Core.Path.{refl, sym, ◌∙◌}
 use Rattle.decode.specs.declared.operations.Form.TheVariants.{Indexed}
 use Rattle.decode.specs.Forms.{is_long, size_at, Taken}

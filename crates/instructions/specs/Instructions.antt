@@ -1,5 +1,5 @@
 -- What each instruction does, as a tree of effects.
-use Rattle.core.specs.Prelude.{ℕ, ◌+◌, ◌-◌, ◌*◌, ◌^◌, Bool, true, false, cond}
+use Rattle.std.specs.Prelude.{ℕ, ◌+◌, ◌-◌, ◌*◌, ◌^◌, Bool, true, false, cond}
 use Rattle.model.specs.declared.Trap.TheVariants.{Illegal as unlawful, Supervisor}
 use Rattle.model.specs.Status.{address, to_half, to_full, to_psw}
 use Rattle.model.specs.Effects.{Prog, stop, privileged, reg, set_reg, get_location, jump, fetch, load, get_status, set_status, seq}

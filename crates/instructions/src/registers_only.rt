@@ -1,5 +1,5 @@
 ghost use Rattle.processor.specs.View.{Does};
-ghost use Rattle.core.specs.Prelude.{◌+◌};
+ghost use Rattle.std.specs.Prelude.{◌+◌};
 ghost use Rattle.model.specs.Status.{address};
 ghost use Rattle.model.specs.Effects.{jump};
 ghost use Rattle.operands.specs.Operands.{then, apply_tree};

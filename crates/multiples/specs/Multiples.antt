@@ -1,5 +1,5 @@
 -- The registers from one on to register 15, and the fullwords from an address on.
-use Rattle.core.specs.Prelude.{ℕ, zero, suc, ◌+◌, ◌-◌}
+use Rattle.std.specs.Prelude.{ℕ, zero, suc, ◌+◌, ◌-◌}
 use Rattle.model.specs.Status.{address, to_full}
 use Rattle.model.specs.Effects.{Prog, ret, reg, set_reg, jump, seq}
 use Rattle.operands.specs.Operands.{then, load_full, store_full}

@@ -1,7 +1,7 @@
 //! The registers from one on to register 15, and the fullwords from an address on.
 #![tactic(auto)]
 
-ghost use Rattle.core.specs.Prelude.{◌≡◌, ◌-◌};
+ghost use Rattle.std.specs.Prelude.{◌≡◌, ◌-◌};
 ghost use Rattle.processor.specs.View.{Does, DoesCalmly};
 ghost use Rattle.multiples.specs.Multiples.{loads, stores, lm_tree, stm_tree};
 

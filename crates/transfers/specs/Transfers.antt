@@ -1,5 +1,5 @@
 -- Moves between registers and the store, single bits, and the branches on an index.
-use Rattle.core.specs.Prelude.{ℕ, ◌+◌, ◌*◌, cond, ◌==◌, nat_lt}
+use Rattle.std.specs.Prelude.{ℕ, ◌+◌, ◌*◌, cond, ◌==◌, nat_lt}
 use Rattle.model.specs.Status.{address, to_half, to_full}
 use Rattle.model.specs.Effects.{Prog, ret, as_number, reg, set_reg, set_code, jump, load, store, seq}
 use Rattle.registers.specs.Parity.{is_odd}

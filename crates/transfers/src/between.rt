@@ -1,4 +1,4 @@
-ghost use Rattle.core.specs.Prelude.{◌≡◌};
+ghost use Rattle.std.specs.Prelude.{◌≡◌};
 ghost use Rattle.processor.specs.View.{Sets};
 ghost use Rattle.transfers.specs.Transfers.{exhr_tree, exbr_tree, lbr_tree, stbr_tree};
 

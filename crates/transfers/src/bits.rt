@@ -1,4 +1,4 @@
-ghost use Rattle.core.specs.Prelude.{◌≡◌};
+ghost use Rattle.std.specs.Prelude.{◌≡◌};
 ghost use Rattle.processor.specs.View.{Does};
 ghost use Rattle.transfers.specs.Transfers.{bit_place, tbt_tree, sbt_tree, rbt_tree, cbt_tree};
 

@@ -1,4 +1,4 @@
-ghost use Rattle.core.specs.Prelude.{◌≡◌};
+ghost use Rattle.std.specs.Prelude.{◌≡◌};
 ghost use Rattle.model.specs.Effects.{went, as_number, run};
 ghost use Rattle.processor.specs.View.{state_of, Sets};
 ghost use Rattle.transfers.specs.Transfers.{raise_tree, bxh_tree, bxle_tree};

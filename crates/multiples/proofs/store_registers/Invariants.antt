@@ -1,4 +1,4 @@
-use Rattle.core.specs.Prelude.{◌≡◌, ◌-◌}
+use Rattle.std.specs.Prelude.{◌≡◌, ◌-◌}
 use Rattle.model.specs.Buses.{Bus}
 use Rattle.model.specs.Effects.{run}
 use Rattle.processor.specs.View.{state_of}

@@ -1,4 +1,4 @@
-use Rattle.core.specs.Prelude.{◌≡◌, ℕ}
+use Rattle.std.specs.Prelude.{◌≡◌, ℕ}
 use mathlib.Core.Path.{◌∙◌, ap, subst}
 use Rattle.model.specs.Effects.{run}
 use Rattle.processor.specs.View.{state_of, out₀}
@@ -18,7 +18,7 @@ returns g c =
     let t = state_of g.S.Store.meaning g.B.Bus.devices c.body.new.m in
     let reply = g.B.Bus.devices c.body.new.m.bus in
     let z = out₀ c.body.result t in
-    let op : c.operation-operation.result ≡ permitted p code = c.operation-operation.ensures ∙ ap (λ (k : ℕ). permitted p k) c.code-field.ensures in
+    let op : c.operation-operation.result ≡ permitted p code = c.operation-operation.ensures ∙ ap (λ (k : ℕ). permitted p k) c.code_field.ensures in
     let at : c.location-own.result.at ≡ s.location = cc in
     guard_first p (is_privileged code) (operation_of code) s.location c.args.first reply s z (cc)
     (subst (λ (o : Operation). run reply (body_of o s.location c.args.first) s ≡ z) op
