@@ -12,7 +12,8 @@ impl<S: Store, B: Bus> Core<S, B> {
     pub fn privileged(&self) -> Result<(), Trap>
         ensures { Does S.Store.meaning B.Bus.devices privileged self.now result self.now }
     {
-        if self.psw.protected() {
+        let refused = self.psw.protected();
+        if refused {
             Err(Trap::Illegal)
         } else {
             Ok(())

@@ -4,14 +4,14 @@ use Rattle.console.specs.Tape.{on_desk}
 use Rattle.console.proofs.TapeCalls.{play_off, play_made}
 use Rattle.console.proofs.machine.Machine.play.Goals as goal
 
-pub returns-in-err-unless-off : goal.returns-in-err-unless-off
-returns-in-err-unless-off g c =
+pub returns-in_err-unless_off : goal.returns-in_err-unless_off
+returns-in_err-unless_off g c =
     record { says = play_off instruction _ 7 _ _ _ _ _ _ _ (search rules) (search rules) (search rules) (search rules); key = search rules; same = search rules; room = search rules }
 
 pub returns : goal.returns
 returns g c =
     record {
-      says = play_made instruction _ _ _ _ (on_desk g.S.Store.meaning g.B.Bus.devices c.play-on-answer.new.core) _ _ _ _ (search rules) c.play-on-answer.ensures.played (search rules);
+      says = play_made instruction _ _ _ _ (on_desk g.S.Store.meaning g.B.Bus.devices c.play_on-answer.new.core) _ _ _ _ (search rules) c.play_on-answer.ensures.played (search rules);
       key = search rules;
       same = search rules;
       room = search rules;

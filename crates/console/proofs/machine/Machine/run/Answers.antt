@@ -5,14 +5,14 @@ use Rattle.steps.proofs.Chains.{steps_split}
 use Rattle.console.proofs.RunCalls.{run_denied, run_made}
 use Rattle.console.proofs.machine.Machine.run.Goals as goal
 
-pub returns-in-err-unless-off : goal.returns-in-err-unless-off
-returns-in-err-unless-off g c =
+pub returns-in_err-unless_off : goal.returns-in_err-unless_off
+returns-in_err-unless_off g c =
     record { says = run_denied instruction _ 7 _ _ _ _ _ _ _ (search rules) (search rules) (search rules) (search rules); splits = steps_split instruction; same = search rules; room = search rules }
 
-pub returns-in-err-answer : goal.returns-in-err-answer
-returns-in-err-answer g c =
-    record { says = run_denied instruction _ (number c.in-err-answer.field-0.0) _ _ _ _ _ _ _ (search rules) (search rules) (search rules) (search rules); splits = steps_split instruction; same = search rules; room = search rules }
+pub returns-in_err-answer : goal.returns-in_err-answer
+returns-in_err-answer g c =
+    record { says = run_denied instruction _ (number c.in_err-answer.field-0.0) _ _ _ _ _ _ _ (search rules) (search rules) (search rules) (search rules); splits = steps_split instruction; same = search rules; room = search rules }
 
 pub returns : goal.returns
 returns g c =
-    record { says = run_made instruction _ _ _ _ _ _ _ _ _ _ (search rules) refl refl c.in-ok-answer.ensures.does; splits = steps_split instruction; same = search rules; room = search rules }
+    record { says = run_made instruction _ _ _ _ _ _ _ _ _ _ (search rules) refl refl c.in_ok-answer.ensures.does; splits = steps_split instruction; same = search rules; room = search rules }
