@@ -13,7 +13,7 @@ pub returns-in-TurnKey : goal.returns-in-TurnKey
 returns-in-TurnKey g c =
     let what = key c.in-TurnKey.position in
     record {
-      does = record { what = what; each = subst (λ (x : Asking). AskedAs x what) (sym c.in-TurnKey.is) refl; leads = ap (λ (d : Did). d.after) c.turn-key.ensures; tells = refl };
+      does = record { what = what; each = subst (λ (x : Asking). AskedAs x what) (sym c.in-TurnKey.is) refl; leads = ap (λ (d : Did). d.after) c.turn_key.ensures; tells = refl };
       same = search rules;
       room = search rules;
     }

@@ -5,8 +5,8 @@ use Rattle.outcome.proofs.digest.store_digest.Goals as goal
 
 pub loop-word-preserved : goal.loop-word-preserved
 loop-word-preserved c =
-    word_more c.args.words.now c.loop-word.word-index c.loop-word.digest c.take-byte-digest.result c.take-byte-digest-in-loop-word.result
-    (digest_from start c.args.words.now) c.loop-word-test.true c.take-byte-digest.ensures c.take-byte-digest-in-loop-word.ensures c.loop-word.invariant
+    word_more c.args.words.now c.loop-word.word-index c.loop-word.digest c.take_byte-digest.result c.take_byte-digest-in-loop-word.result
+    (digest_from start c.args.words.now) c.loop-word-test.true c.take_byte-digest.ensures c.take_byte-digest-in-loop-word.ensures c.loop-word.invariant
 
 pub returns : goal.returns
 returns c =

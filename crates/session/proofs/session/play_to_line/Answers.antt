@@ -28,5 +28,5 @@ returns c =
           subst (λ (l : List Record). Plays instruction (length c.args.slots.now) tape fresh l a v p) c.new-trace.ensures.empty
           (subst (λ (d : Desk). Plays instruction (length c.args.slots.now) tape d q a v p) new
           (subst (λ (k : ℕ). Plays instruction k tape w q a v p) c.new-trace.ensures.room c.play.ensures.says));
-      shows = c.line-of.ensures (ap (λ k. k.position) c.play.ensures.key ∙ ap (λ (d : Desk). d.key) new);
+      shows = c.line_of.ensures (ap (λ k. k.position) c.play.ensures.key ∙ ap (λ (d : Desk). d.key) new);
     }
