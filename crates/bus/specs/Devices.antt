@@ -1,5 +1,5 @@
 -- What each kind of bus means, by what it is made of.
-use Rattle.std.specs.Prelude.{ℕ, false}
+use Rattle.std.specs.Prelude.{false}
 use Rattle.model.specs.Buses.{Device, Bus}
 
 -- A device that is not there.

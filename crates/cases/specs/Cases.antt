@@ -1,5 +1,5 @@
 -- Worked cases, of whole instructions in small machines, whatever the store, the devices and their replies.
-use Rattle.std.specs.Prelude.{◌≡◌, false, List, [], ◌∷◌, ℕ, replicate}
+use Rattle.std.specs.Prelude.{◌≡◌, false, ◌∷◌, ℕ, replicate}
 use Rattle.model.specs.declared.Access.TheVariants.{Read}
 use Rattle.model.specs.declared.Trap.TheVariants.{Arithmetic, Refusal}
 use Rattle.model.specs.Stores.{Store}

@@ -1,5 +1,5 @@
 -- Further cases, where an emulator easily goes wrong.
-use Rattle.std.specs.Prelude.{◌≡◌, List, [], ◌∷◌, ℕ}
+use Rattle.std.specs.Prelude.{◌≡◌}
 use Rattle.model.specs.declared.Trap.TheVariants.{Arithmetic}
 use Rattle.model.specs.Stores.{Store}
 use Rattle.model.specs.Buses.{Bus}

@@ -10,7 +10,7 @@ use Rattle.model.specs.Buses.{Bus}
 use Rattle.model.specs.States.{State}
 use Rattle.model.specs.Steps.{Ending, finished, waiting, took, stepped as step_of}
 use Rattle.model.specs.Answers.{Answer, denied, done, shown, stepped, ran, played, faulted}
-use Rattle.model.specs.Console.{Desk, Did, did_step, unless_denied, denial, Act, call, told, tell, Told}
+use Rattle.model.specs.Console.{Desk, did_step, unless_denied, denial, Act, call, told, tell, Told}
 use Rattle.instructions.specs.Instructions.{instruction}
 use Rattle.isolation.specs.Calls.{Reached, called, ran as by_run, played as by_tape, Continued, step, Event, unseen, answered, interrupted, seen, Course, quiet, broken, ahead, joined, after, event, course}
 use Rattle.comparison.specs.declared.calls.Call.{Call}

@@ -1,5 +1,5 @@
 -- A location that is even and has 20 bits is loaded as it is.
-use Rattle.std.proofs.Common.{◌≡◌, ℕ, ◌*◌, ◌/◌, ◌%◌, ◌^◌, ◌<◌, Bool, true, false, cond, Some, None, arith, rules}
+use Rattle.std.proofs.Common.{◌≡◌, ℕ, ◌*◌, ◌/◌, ◌%◌, ◌^◌, ◌<◌, None, arith, rules}
 use Rattle.model.specs.declared.Item.TheVariants.{Location}
 use Rattle.model.specs.Status.{counter, address}
 use Rattle.model.specs.Stores.{Store}

@@ -1,5 +1,5 @@
 -- The console's code as the definitions see it.
-use Rattle.std.specs.Prelude.{◌≡◌, ℕ, ◌-◌, List, [], length, Some, None, Ok, Err, Option, Result}
+use Rattle.std.specs.Prelude.{◌≡◌, ℕ, ◌-◌, length, Some, None, Ok, Err, Option, Result}
 use Rattle.queue.specs.declared.Queue.{Queue}
 use Rattle.queue.specs.Rows.{queued, capacity}
 use Rattle.model.specs.declared.Denial.{Denial}
@@ -7,7 +7,7 @@ use Rattle.model.specs.declared.Record.{Record}
 use Rattle.model.specs.declared.StepAnswer.{StepAnswer}
 use Rattle.model.specs.Stores.{Store}
 use Rattle.model.specs.Buses.{Bus}
-use Rattle.model.specs.Answers.{number, Answer, denied, done, shown, stepped, ran, played, faulted}
+use Rattle.model.specs.Answers.{number, Answer, denied, done, shown, stepped, ran}
 use Rattle.model.specs.Console.{Desk, Act, step, call, gives, told, tell}
 use Rattle.model.specs.Runs.{Runs as RunsBy}
 use Rattle.processor.specs.View.{state_of}

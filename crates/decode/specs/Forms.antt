@@ -1,5 +1,5 @@
 -- The forms of instructions, the halfwords that they take, and the address rule.
-use Rattle.std.specs.Prelude.{◌≡◌, ℕ, ◌+◌, ◌-◌, ◌*◌, ◌/◌, ◌%◌, ◌^◌, ◌<◌, ◌≤◌, Bool, true, false, cond, List, length, drop, ◌==◌, nat_lt, slice_index}
+use Rattle.std.specs.Prelude.{◌≡◌, ℕ, ◌+◌, ◌-◌, ◌*◌, ◌/◌, ◌%◌, ◌^◌, ◌≤◌, Bool, cond, List, length, drop, ◌==◌, nat_lt, slice_index}
 use Rattle.decode.specs.declared.operations.Operation.{Operation}
 use Rattle.decode.specs.declared.operations.Operation.TheVariants.{Register, Short, Memory, Immediate, LongImmediate, Illegal}
 use Rattle.decode.specs.declared.operations.Form.{Form}

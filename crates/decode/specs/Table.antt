@@ -1,14 +1,9 @@
 -- The whole table of operation codes, and what holds of it.
-use Rattle.std.specs.Prelude.{◌≡◌, ℕ, zero, suc, ◌+◌, ◌%◌, Bool, true, false, cond, ◌&&◌, ◌||◌, eqb, leb, List, [], ◌∷◌, map, get_or}
-use Rattle.decode.specs.declared.operations.Function.{Function}
+use Rattle.std.specs.Prelude.{◌≡◌, ℕ, zero, suc, ◌+◌, Bool, true, false, cond, ◌&&◌, List, [], ◌∷◌, map}
 use Rattle.decode.specs.declared.operations.Function.TheVariants.{And, CompareLogical, Or, ExclusiveOr, Load, Compare, Add, Subtract, Test}
-use Rattle.decode.specs.declared.operations.RegisterOp.{RegisterOp}
 use Rattle.decode.specs.declared.operations.RegisterOp.TheVariants.{Balr, Btcr, Bfcr, WithRegister, Lpswr, Mr, Dr, Exhr, Stbr, Lbr, Exbr, Epsr, Wdr, Rdr, Ssr, Ocr}
-use Rattle.decode.specs.declared.operations.ShortOp.{ShortOp}
 use Rattle.decode.specs.declared.operations.ShortOp.TheVariants.{Srls, Slls, Btbs, Btfs, Bfbs, Bffs, Lis, Lcs, Ais, Sis}
-use Rattle.decode.specs.declared.operations.MemoryOp.{MemoryOp}
 use Rattle.decode.specs.declared.operations.MemoryOp.TheVariants.{Sth, Bal, Btc, Bfc, WithHalf, St, Am, WithFull, M, D, Ahm, Lhl, Tbt, Sbt, Rbt, Cbt, Bxh, Bxle, Lpsw, Stm, Lm, Stb, Lb, Clb, Wd, Rd, Ss, Oc, Ts, Svc, La}
-use Rattle.decode.specs.declared.operations.ImmediateOp.{ImmediateOp}
 use Rattle.decode.specs.declared.operations.ImmediateOp.TheVariants.{WithImmediate, Rrl, Rll, Srl, Sll, Sra, Sla}
 use Rattle.decode.specs.declared.operations.Operation.{Operation}
 use Rattle.decode.specs.declared.operations.Operation.TheVariants.{Register, Short, Memory, Immediate, LongImmediate, Illegal}

@@ -1,12 +1,12 @@
 -- What each instruction does, as a tree of effects.
-use Rattle.std.specs.Prelude.{ℕ, ◌+◌, ◌-◌, ◌*◌, ◌^◌, Bool, true, false, cond}
+use Rattle.std.specs.Prelude.{ℕ, ◌+◌, ◌-◌, ◌*◌, ◌^◌, Bool, true, false}
 use Rattle.model.specs.declared.Trap.TheVariants.{Illegal as unlawful, Supervisor}
 use Rattle.model.specs.Status.{address, to_half, to_full, to_psw}
 use Rattle.model.specs.Effects.{Prog, stop, privileged, reg, set_reg, get_location, jump, fetch, load, get_status, set_status, seq}
 use Rattle.words.specs.Sums.{sum, difference, extended}
 use Rattle.fields.specs.Parts.{joined}
 use Rattle.decode.specs.declared.operations.Function.{Function}
-use Rattle.decode.specs.declared.operations.Function.TheVariants.{And, CompareLogical, Or, ExclusiveOr, Load, Compare, Add, Subtract, Test}
+use Rattle.decode.specs.declared.operations.Function.TheVariants.{Load, Add, Subtract}
 use Rattle.decode.specs.declared.operations.RegisterOp.{RegisterOp}
 use Rattle.decode.specs.declared.operations.RegisterOp.TheVariants.{Balr, Btcr, Bfcr, WithRegister, Lpswr, Mr, Dr, Exhr, Stbr, Lbr, Exbr, Epsr, Wdr, Rdr, Ssr, Ocr}
 use Rattle.decode.specs.declared.operations.ShortOp.{ShortOp}

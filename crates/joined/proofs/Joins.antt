@@ -1,7 +1,7 @@
 -- The search for a request on two buses joined.
-use Rattle.std.proofs.Common.{◌≡◌, ℕ, ◌<◌, ◌≤◌, min, Bool, true, false, cond, Some, None, Option, refl, arith}
+use Rattle.std.proofs.Common.{◌≡◌, ℕ, true, false, cond, Some, None, Option, arith}
 use Rattle.model.specs.Buses.{Bus, lowest}
-use Rattle.bus.proofs.Searches.{Quiet, Found, lowest_finds}
+use Rattle.bus.proofs.Searches.{Found, lowest_finds}
 use Rattle.joined.specs.Parts.{joined, lower_of}
 
 -- where neither requests, the two joined do not

@@ -1,5 +1,5 @@
 -- The bus: what each device means, and what a read, a write or a command does to it.
-use Rattle.std.specs.Prelude.{ℕ, zero, suc, ◌+◌, ◌%◌, ◌^◌, Bool, true, false, cond, Some, None, Option, ◌==◌}
+use Rattle.std.specs.Prelude.{ℕ, zero, suc, ◌+◌, ◌%◌, ◌^◌, Bool, cond, Some, None, Option, ◌==◌}
 
 -- The meaning of a device: whether it answers, its status, the byte that it offers, whether it requests an interrupt,
 -- its latest data and command, and how often it was read, written and commanded.

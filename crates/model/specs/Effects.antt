@@ -1,13 +1,13 @@
 -- What an instruction can do to the machine: single effects, and one after the other. An instruction is a tree of effects.
-use Rattle.std.specs.Prelude.{ℕ, ◌+◌, ◌*◌, ◌/◌, ◌%◌, ◌^◌, Bool, true, false, cond, List, bit_or, slice_index, slice_set}
+use Rattle.std.specs.Prelude.{ℕ, ◌/◌, Bool, true, false, cond, bit_or, slice_index, slice_set}
 use Rattle.model.specs.declared.Access.{Access}
 use Rattle.model.specs.declared.Access.TheVariants.{Fetch, Read, Write}
 use Rattle.model.specs.declared.Verdict.{Verdict}
 use Rattle.model.specs.declared.Verdict.TheVariants.{Refused, Granted, Reported}
 use Rattle.model.specs.declared.Trap.{Trap}
-use Rattle.model.specs.declared.Trap.TheVariants.{Illegal, Arithmetic, Refusal, Supervisor}
-use Rattle.model.specs.Stores.{Store, revised, half_at}
-use Rattle.model.specs.Buses.{Device, Bus, changed, was_read, was_written, was_commanded}
+use Rattle.model.specs.declared.Trap.TheVariants.{Illegal, Refusal}
+use Rattle.model.specs.Stores.{revised, half_at}
+use Rattle.model.specs.Buses.{Bus, changed, was_read, was_written, was_commanded}
 use Rattle.model.specs.States.{State, with_status, with_location, with_faults, with_pending, with_registers, with_segments, with_store, with_bus}
 use Rattle.model.specs.Status.{relocated, protected, code_of, recoded, selected, slot, counter, address}
 use Rattle.model.specs.Controller.{real, verdict, write_report, is_controller, controller_half, segments_after, faults_after_read}

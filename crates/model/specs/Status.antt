@@ -1,5 +1,5 @@
 -- The bits of the status word, the register sets that it selects, and the Location Counter.
-use Rattle.std.specs.Prelude.{ℕ, ◌+◌, ◌-◌, ◌*◌, ◌/◌, ◌%◌, ◌^◌, Bool, true, false, cond, not, ◌||◌, ◌==◌}
+use Rattle.std.specs.Prelude.{ℕ, ◌+◌, ◌-◌, ◌*◌, ◌/◌, ◌%◌, ◌^◌, Bool, cond, not, ◌||◌, ◌==◌}
 
 -- Bit n of a 32-bit word; bit 0 is the leftmost.
 abbrev pub bit : ℕ → ℕ → Bool

@@ -1,6 +1,5 @@
 -- A tape: the calls that its bytes spell, and how it is played.
-use Rattle.std.specs.Prelude.{◌≡◌, ℕ, zero, suc, ◌+◌, ◌-◌, ◌*◌, ◌/◌, ◌%◌, ◌^◌, Bool, true, false, cond, ◌⊎◌, List, [], ◌∷◌, length, Some, None, Option, ◌==◌, nat_lt, slice_index}
-use Rattle.model.specs.declared.Item.{Item}
+use Rattle.std.specs.Prelude.{◌≡◌, ℕ, zero, suc, ◌+◌, ◌*◌, ◌/◌, ◌%◌, ◌^◌, true, cond, List, [], ◌∷◌, length, Some, None, Option, ◌==◌, nat_lt, slice_index}
 use Rattle.model.specs.declared.Item.TheVariants.{General, Segment, Status, Location}
 use Rattle.model.specs.declared.Record.{Record}
 use Rattle.model.specs.Effects.{Prog}

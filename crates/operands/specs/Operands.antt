@@ -1,5 +1,5 @@
 -- What instructions share: indexes and addresses, fullwords in the store, the functions of the families, and branches.
-use Rattle.std.specs.Prelude.{ℕ, ◌+◌, ◌%◌, Bool, true, false, cond, ◌==◌, bit_and, bit_or, bit_xor}
+use Rattle.std.specs.Prelude.{ℕ, ◌+◌, ◌%◌, cond, ◌==◌, bit_and, bit_or, bit_xor}
 use Rattle.model.specs.Status.{address}
 use Rattle.model.specs.Effects.{Prog, ret, reg, set_reg, get_code, set_code, jump, fetch, load, store, seq}
 use Rattle.registers.specs.Parity.{is_odd}

@@ -1,5 +1,5 @@
 -- One more digit of a number, and one more halfword of a store.
-use Rattle.std.proofs.Common.{◌≡◌, ℕ, suc, ◌+◌, ◌/◌, ◌%◌, ◌^◌, ◌<◌, List, [], ◌∷◌, ◌++◌, length, get_or, drop, sym, refl, ap, ◌∙◌, subst, append_assoc, add-one, drop-cons}
+use Rattle.std.proofs.Common.{◌≡◌, ℕ, suc, ◌+◌, ◌/◌, ◌%◌, ◌^◌, ◌<◌, List, [], ◌∷◌, ◌++◌, length, get_or, drop, sym, ap, ◌∙◌, subst, append_assoc, add-one, drop-cons}
 use lib.Seq.{drop-length}
 use Rattle.session.specs.Lines.{hex_digit, digits}
 use Rattle.outcome.specs.Digests.{digest_from, taken, taken_word}

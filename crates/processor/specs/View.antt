@@ -1,5 +1,5 @@
 -- The processor's code as the definitions see it.
-use Rattle.std.specs.Prelude.{◌≡◌, ℕ, Bool, List, Ok, Err, Result}
+use Rattle.std.specs.Prelude.{◌≡◌, ℕ, Ok, Err, Result}
 use Rattle.model.specs.declared.Trap.{Trap}
 use Rattle.model.specs.Stores.{Store}
 use Rattle.model.specs.Buses.{Bus}

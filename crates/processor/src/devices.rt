@@ -13,11 +13,7 @@ impl<S: Store, B: Bus> Core<S, B> {
         ensures { Does S.Store.meaning B.Bus.devices privileged self.now result self.now }
     {
         let refused = self.psw.protected();
-        if refused {
-            Err(Trap::Illegal)
-        } else {
-            Ok(())
-        }
+        if refused { Err(Trap::Illegal) } else { Ok(()) }
     }
 
     /// The status.

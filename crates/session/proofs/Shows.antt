@@ -1,8 +1,8 @@
 -- With the key ON, a register that is there is shown.
-use Rattle.std.proofs.Common.{◌≡◌, ℕ, eqb, None, Ok, Err, Option, Result, sym, refl, ap, ◌∙◌, arith}
+use Rattle.std.proofs.Common.{◌≡◌, ℕ, eqb, None, Ok, Err, Option, Result, sym, ap, ◌∙◌, arith}
 use Rattle.model.specs.declared.Denial.{Denial}
 use Rattle.model.specs.declared.Item.{Item}
-use Rattle.model.specs.Answers.{on, Answer, shown, denied, number}
+use Rattle.model.specs.Answers.{on, shown}
 use Rattle.model.specs.Effects.{Prog}
 use Rattle.model.specs.Console.{Desk, Did, gives, show_item, item_denial, item_of, or_else, deny_if, unless_denied, call}
 use Rattle.console.specs.View.{shown_by}

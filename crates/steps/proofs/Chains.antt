@@ -1,5 +1,5 @@
 -- Steps that nothing stops, one more at their end.
-use Rattle.std.proofs.Common.{◌≡◌, ℕ, zero, suc, ◌+◌, List, sym, refl, subst, add-zero, add-suc, add-one}
+use Rattle.std.proofs.Common.{ℕ, zero, suc, ◌+◌, List, sym, refl, subst, add-zero, add-suc, add-one}
 use Rattle.model.specs.declared.Record.{Record}
 use Rattle.model.specs.States.{State}
 use Rattle.model.specs.Effects.{Prog}

@@ -1,7 +1,6 @@
 -- What each kind of store means, by what it is made of.
-use Rattle.std.specs.Prelude.{Bool, true, false, cond, List, ℕ, min, ltb, length, get_or, set}
-use Rattle.model.specs.declared.Kind.{Kind}
-use Rattle.model.specs.declared.Kind.TheVariants.{Writable, Fixed, Unfitted}
+use Rattle.std.specs.Prelude.{cond, List, ℕ, min, ltb, length, get_or, set}
+use Rattle.model.specs.declared.Kind.TheVariants.{Writable, Unfitted}
 use Rattle.model.specs.Stores.{Store, store_limit}
 
 -- Core boards over a list of halfwords: every place within the limit is writable; halfwords past it are not used.

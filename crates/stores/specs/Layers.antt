@@ -1,6 +1,5 @@
 -- What each kind of store means, by what it is made of.
-use Rattle.std.specs.Prelude.{Bool, true, false, cond, List, ℕ, ◌+◌, ◌-◌, ◌*◌, ◌/◌, ◌%◌, min, leb, ltb, length, get_or, set}
-use Rattle.model.specs.declared.Kind.{Kind}
+use Rattle.std.specs.Prelude.{Bool, false, cond, List, ℕ, ◌+◌, ◌-◌, ◌*◌, ◌/◌, ◌%◌, min, leb, ltb, length, get_or, set}
 use Rattle.model.specs.declared.Kind.TheVariants.{Writable, Fixed, Unfitted}
 use Rattle.model.specs.Stores.{Store, store_limit, stored}
 

@@ -1,4 +1,4 @@
-use Rattle.std.proofs.Common.{◌≡◌, List, subst, rules}
+use Rattle.std.proofs.Common.{subst, rules}
 use Rattle.model.specs.Console.{Desk, made}
 use Rattle.instructions.specs.Instructions.{instruction}
 use Rattle.console.specs.View.{desk_of}

@@ -1,9 +1,9 @@
-use Rattle.std.proofs.Common.{◌≡◌, ◌-◌, length, Some, None, sym, refl, ap, subst, rules}
+use Rattle.std.proofs.Common.{◌-◌, length, Some, None, sym, refl, ap, subst, rules}
 use Rattle.queue.specs.Rows.{queued, capacity}
 use Rattle.model.specs.Answers.{number, stepped, denied}
 use Rattle.model.specs.Console.{Did}
 use Rattle.console.specs.View.{desk_of}
-use Rattle.isolation.specs.Calls.{Continued, key, examine, deposit, show, step}
+use Rattle.isolation.specs.Calls.{key, examine, deposit, show, step}
 use Rattle.comparison.specs.declared.calls.Continued.{Continued as Asking}
 use Rattle.comparison.specs.Lists.{AskedAs}
 use Rattle.comparison.proofs.Chains.{step_followed}

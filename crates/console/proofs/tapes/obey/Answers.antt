@@ -1,4 +1,4 @@
-use Rattle.std.proofs.Common.{◌≡◌, Ok, sym, refl, subst, rules}
+use Rattle.std.proofs.Common.{Ok, sym, refl, subst, rules}
 use Rattle.queue.specs.Rows.{queued, capacity}
 use Rattle.model.specs.Answers.{done, ran}
 use Rattle.model.specs.Tapes.{Obeys}

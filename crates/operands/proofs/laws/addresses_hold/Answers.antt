@@ -1,6 +1,6 @@
-use Rattle.std.proofs.Common.{ℕ, ◌+◌, ◌-◌, ◌*◌, ◌/◌, ◌%◌, ◌^◌, ◌<◌, Bool, true, false, cond, ltb, arith}
+use Rattle.std.proofs.Common.{ℕ, ◌%◌, ◌^◌, ◌<◌, Bool, true, false, cond, ltb, arith}
 use Rattle.model.specs.Status.{to_half, to_full, to_psw}
-use Rattle.decode.specs.Forms.{signed15, address_of}
+use Rattle.decode.specs.Forms.{address_of}
 use Rattle.operands.specs.Laws.{Address}
 use Rattle.operands.proofs.laws.addresses_hold.Goals as goal
 

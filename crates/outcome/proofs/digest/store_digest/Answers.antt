@@ -1,4 +1,4 @@
-use Rattle.std.proofs.Common.{◌≡◌, ℕ, length, arith}
+use Rattle.std.proofs.Common.{◌≡◌, length, arith}
 use Rattle.outcome.specs.Digests.{digest_from, start}
 use Rattle.outcome.proofs.Lists.{word_more, word_none}
 use Rattle.outcome.proofs.digest.store_digest.Goals as goal

@@ -1,4 +1,4 @@
-use Rattle.std.proofs.Common.{◌≡◌, ℕ, suc, ◌-◌, Bool, true, cond, List, [], ◌∷◌, ◌++◌, is_ok, vec_items, ap, ◌∙◌, arith}
+use Rattle.std.proofs.Common.{◌≡◌, suc, ◌-◌, Bool, true, cond, [], ◌∷◌, ◌++◌, is_ok, vec_items, ap, ◌∙◌, arith}
 use Rattle.session.specs.Lines.{digits}
 use Rattle.outcome.proofs.Lists.{digit_more}
 use Rattle.outcome.proofs.hex.add_hex.Goals as goal

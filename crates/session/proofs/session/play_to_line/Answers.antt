@@ -1,4 +1,4 @@
-use Rattle.std.proofs.Common.{◌≡◌, ℕ, List, [], length, ap, ◌∙◌, subst}
+use Rattle.std.proofs.Common.{◌≡◌, ℕ, List, length, ap, ◌∙◌, subst}
 use Rattle.queue.specs.Rows.{queued}
 use Rattle.model.specs.declared.Record.{Record}
 use Rattle.model.specs.Console.{Desk, made}
