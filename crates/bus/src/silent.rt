@@ -1,3 +1,4 @@
+ghost use Rattle.std.specs.Prelude.{◌≡◌};
 ghost use Rattle.bus.specs.Devices.{silent};
 
 use crate::meaning::Bus;
@@ -29,15 +30,21 @@ impl Bus for SilentBus {
         None
     }
 
-    fn read(&mut self, _device: u8) -> u8 {
-        unreachable()
+    /// There is nothing to read.
+    fn read(&mut self, _device: u8) -> u8
+        ensures value { result ≡ 0 }
+        ensures same { self.new ≡ self.old }
+    {
+        0
     }
 
-    fn write(&mut self, _device: u8, _byte: u8) {
-        unreachable()
-    }
+    /// The byte goes nowhere.
+    fn write(&mut self, _device: u8, _byte: u8)
+        ensures same { self.new ≡ self.old }
+    {}
 
-    fn command(&mut self, _device: u8, _byte: u8) {
-        unreachable()
-    }
+    /// The command goes nowhere.
+    fn command(&mut self, _device: u8, _byte: u8)
+        ensures same { self.new ≡ self.old }
+    {}
 }

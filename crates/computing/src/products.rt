@@ -5,7 +5,7 @@ ghost use Rattle.computing.specs.Computing.{pair_of, multiply_tree, divide_tree,
 use bus::meaning::Bus;
 use model::Trap;
 use operands::addresses::load_full;
-use processor::core::Core;
+use processor::cpu::Core;
 use registers::words::ProgramAddress;
 use store::meaning::Store;
 use words::products::{divided, product};

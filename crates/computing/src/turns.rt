@@ -3,7 +3,7 @@ ghost use Rattle.processor.specs.View.{Sets};
 ghost use Rattle.computing.specs.Computing.{coded_tree, srl_tree, sll_tree, sra_tree, sla_tree, rrl_tree, rll_tree};
 
 use bus::meaning::Bus;
-use processor::core::Core;
+use processor::cpu::Core;
 use shifts::{
     rotate_left, rotate_left_code, rotate_right, rotate_right_code, shift_left,
     shift_left_arithmetic, shift_left_arithmetic_code, shift_left_code, shift_right,

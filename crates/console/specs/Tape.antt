@@ -9,7 +9,7 @@ use Rattle.model.specs.Buses.{Bus}
 use Rattle.model.specs.Answers.{number, on, Answer, denied, played, faulted, accepted}
 use Rattle.model.specs.Console.{Desk}
 use Rattle.model.specs.Tapes.{spell, spell_from, Obeys, Playing, Plays as PlaysBy}
-use Rattle.processor.specs.declared.core.Core.{Core}
+use Rattle.processor.specs.declared.cpu.Core.{Core}
 use Rattle.processor.specs.View.{state_of}
 use Rattle.instructions.specs.Instructions.{instruction}
 use Rattle.console.specs.declared.machine.Machine.{Machine}

@@ -13,7 +13,7 @@ use crate::store_at::{deposit_at, place_at};
 use crate::tapes::play_on;
 use bus::meaning::Bus;
 use model::{Denial, Item, Record, StepAnswer};
-use processor::core::Core;
+use processor::cpu::Core;
 use queue::Queue;
 use steps::run::RunAnswer;
 use steps::step::step;

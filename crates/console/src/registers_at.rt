@@ -7,7 +7,7 @@ ghost use Rattle.console.specs.View.{refusal};
 use crate::store_at::is_strange;
 use bus::meaning::Bus;
 use model::{Denial, Item};
-use processor::core::Core;
+use processor::cpu::Core;
 use registers::controller::used_bits;
 use registers::words::ProgramAddress;
 use store::meaning::Store;

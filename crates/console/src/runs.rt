@@ -8,7 +8,7 @@ ghost use Rattle.console.specs.View.{refusal};
 
 use bus::meaning::Bus;
 use model::{Denial, Record};
-use processor::core::Core;
+use processor::cpu::Core;
 use queue::Queue;
 use steps::run::{RunAnswer, run};
 use store::meaning::Store;

@@ -7,7 +7,7 @@ ghost use Rattle.console.specs.View.{refusal};
 
 use bus::meaning::Bus;
 use model::{Denial, Kind};
-use processor::core::Core;
+use processor::cpu::Core;
 use store::meaning::Store;
 
 /// Whether an address is odd or over X'FFFFF'.

@@ -8,7 +8,7 @@ use crate::runs::run_at;
 use crate::store_at::deposit_at;
 use bus::meaning::Bus;
 use model::{Denial, Record};
-use processor::core::Core;
+use processor::cpu::Core;
 use queue::Queue;
 use store::meaning::Store;
 use tape::commands::{Command, read_command};

@@ -7,7 +7,7 @@ use Rattle.model.specs.States.{State}
 use Rattle.model.specs.declared.Access.TheVariants.{Read, Write}
 use Rattle.model.specs.Effects.{Out, went, stopped, run, Prog, ret, reg, set_reg, set_code, jump, store, check, answers, sense, read_from, write_to, command_to, seq}
 use Rattle.registers.specs.Parity.{is_odd}
-use Rattle.processor.specs.declared.core.Core.{Core}
+use Rattle.processor.specs.declared.cpu.Core.{Core}
 use Rattle.processor.specs.View.{state_of}
 use Rattle.processor.specs.Writes.{put_byte}
 use Rattle.fields.specs.Parts.{low_byte, device_number}

@@ -4,7 +4,7 @@ ghost use Rattle.devices.specs.Devices.{rdr_tree, rd_tree};
 use crate::named::{absent, device, end};
 use bus::meaning::Bus;
 use model::{Access, Trap};
-use processor::core::Core;
+use processor::cpu::Core;
 use registers::words::ProgramAddress;
 use store::meaning::Store;
 

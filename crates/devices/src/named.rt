@@ -5,7 +5,7 @@ ghost use Rattle.devices.specs.Devices.{no_device, Names, end_tree};
 use bus::meaning::Bus;
 use fields::parts::device_number;
 use model::Trap;
-use processor::core::Core;
+use processor::cpu::Core;
 use registers::words::ProgramAddress;
 use store::meaning::Store;
 

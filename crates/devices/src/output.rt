@@ -6,7 +6,7 @@ use bus::meaning::Bus;
 use fields::parts::low_byte;
 use model::{Access, Trap};
 use operands::addresses::load_byte;
-use processor::core::Core;
+use processor::cpu::Core;
 use registers::words::ProgramAddress;
 use store::meaning::Store;
 

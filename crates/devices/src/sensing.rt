@@ -4,7 +4,7 @@ ghost use Rattle.devices.specs.Devices.{status_tree, ssr_tree, ss_tree};
 use crate::named::{device, end};
 use bus::meaning::Bus;
 use model::{Access, Trap};
-use processor::core::Core;
+use processor::cpu::Core;
 use registers::words::ProgramAddress;
 use store::meaning::Store;
 

@@ -9,7 +9,7 @@ use decode::codes::operation;
 use decode::forms::{code_field, first_field, second_field};
 use decode::operations::Operation;
 use model::Trap;
-use processor::core::Core;
+use processor::cpu::Core;
 use registers::words::ProgramAddress;
 use store::meaning::Store;
 

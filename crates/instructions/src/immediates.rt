@@ -9,7 +9,7 @@ use fields::parts::joined;
 use model::Trap;
 use operands::addresses::index;
 use operands::functions::apply;
-use processor::core::Core;
+use processor::cpu::Core;
 use registers::words::ProgramAddress;
 use store::meaning::Store;
 use words::sums::{extended, sum};

@@ -13,7 +13,7 @@ use multiples::{lm, stm};
 use operands::addresses::{address, load_full, next, third};
 use operands::branches::{branch_false, branch_true};
 use operands::functions::apply;
-use processor::core::Core;
+use processor::cpu::Core;
 use registers::words::ProgramAddress;
 use store::meaning::Store;
 use transfers::bits::{cbt, rbt, sbt, tbt};

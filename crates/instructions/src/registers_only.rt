@@ -16,7 +16,7 @@ use model::Trap;
 use operands::addresses::following;
 use operands::branches::{branch_false, branch_true};
 use operands::functions::apply;
-use processor::core::Core;
+use processor::cpu::Core;
 use registers::words::ProgramAddress;
 use store::meaning::Store;
 use transfers::between::{exbr, exhr, lbr, stbr};

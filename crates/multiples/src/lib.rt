@@ -8,7 +8,7 @@ ghost use Rattle.multiples.specs.Multiples.{loads, stores, lm_tree, stm_tree};
 use bus::meaning::Bus;
 use model::Trap;
 use operands::addresses::{load_full, store_full};
-use processor::core::Core;
+use processor::cpu::Core;
 use registers::words::ProgramAddress;
 use store::meaning::Store;
 

@@ -7,7 +7,7 @@ use bus::meaning::Bus;
 use decode::forms::{Parts, address_of, index_field, is_long, second_field};
 use fields::parts::{byte_at, high_half, joined, low_half};
 use model::Trap;
-use processor::core::Core;
+use processor::cpu::Core;
 use registers::words::ProgramAddress;
 use store::meaning::Store;
 

@@ -3,7 +3,7 @@ ghost use Rattle.processor.specs.View.{Sets};
 ghost use Rattle.operands.specs.Operands.{branch_true, branch_false};
 
 use bus::meaning::Bus;
-use processor::core::Core;
+use processor::cpu::Core;
 use registers::words::ProgramAddress;
 use store::meaning::Store;
 

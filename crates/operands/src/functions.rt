@@ -4,7 +4,7 @@ ghost use Rattle.operands.specs.Operands.{result_tree, apply_tree};
 
 use bus::meaning::Bus;
 use decode::operations::Function;
-use processor::core::Core;
+use processor::cpu::Core;
 use store::meaning::Store;
 use words::sums::{
     compare_code, compare_logical_code, difference, difference_code, marks, sum, sum_code,

@@ -6,4 +6,4 @@ pub mod hex;
 pub mod line;
 pub mod played;
 pub mod shown;
-pub mod words;
+pub mod wording;

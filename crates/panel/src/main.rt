@@ -6,7 +6,7 @@ use console::answers::denial_number;
 use model::{Cause, Record};
 use outcome::played::play_new;
 use outcome::shown::Shown;
-use outcome::words::{cause_words, denial_words};
+use outcome::wording::{cause_words, denial_words};
 use queue::Queue;
 use std::io;
 use std::io::Read;

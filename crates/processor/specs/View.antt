@@ -6,7 +6,7 @@ use Rattle.model.specs.Buses.{Bus}
 use Rattle.model.specs.States.{State}
 use Rattle.model.specs.Effects.{Out, went, stopped, Prog, run}
 use Rattle.registers.specs.declared.words.RealAddress.{RealAddress}
-use Rattle.processor.specs.declared.core.Core.{Core}
+use Rattle.processor.specs.declared.cpu.Core.{Core}
 
 -- How a call ended: with a number, with an address, with a truth, or with nothing.
 abbrev pub out : Result ℕ Trap → State → Out

@@ -5,7 +5,7 @@ ghost use Rattle.model.specs.Effects.{went, and_then, translated, checked, reach
 ghost use Rattle.processor.specs.View.{state_of, out_real, Does, Gives};
 ghost use Rattle.processor.specs.Writes.{put, put_byte};
 
-use crate::core::Core;
+use crate::cpu::Core;
 use bus::meaning::Bus;
 use fields::parts::with_byte;
 use model::{Access, Trap, Verdict};

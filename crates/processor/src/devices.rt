@@ -2,7 +2,7 @@ ghost use Rattle.std.specs.Prelude.{◌≡◌, true, Ok, Err};
 ghost use Rattle.model.specs.Effects.{run, as_number, privileged, get_status, set_status, answers, sense, read_from, write_to, command_to};
 ghost use Rattle.processor.specs.View.{state_of, out, Does, Gives};
 
-use crate::core::Core;
+use crate::cpu::Core;
 use bus::meaning::Bus;
 use model::Trap;
 use store::meaning::Store;

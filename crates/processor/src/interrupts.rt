@@ -4,7 +4,7 @@ ghost use Rattle.model.specs.Stores.{half_at, full_at};
 ghost use Rattle.model.specs.Steps.{took, recorded, interrupted, supervised, requested};
 ghost use Rattle.processor.specs.View.{state_of};
 
-use crate::core::Core;
+use crate::cpu::Core;
 use bus::meaning::Bus;
 use model::{Cause, Record};
 use registers::words::{ProgramAddress, Psw};

@@ -2,7 +2,7 @@
 #![tactic(auto)]
 
 pub mod access;
-pub mod core;
+pub mod cpu;
 pub mod devices;
 pub mod interrupts;
 pub mod panel;

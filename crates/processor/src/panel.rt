@@ -5,7 +5,7 @@ ghost use Rattle.model.specs.Status.{file_of, slot, counter};
 ghost use Rattle.model.specs.Console.{fresh};
 ghost use Rattle.processor.specs.View.{state_of};
 
-use crate::core::Core;
+use crate::cpu::Core;
 use bus::meaning::Bus;
 use model::Kind;
 use registers::controller::Controller;

@@ -9,7 +9,7 @@ use Rattle.model.specs.Stores.{Store}
 use Rattle.model.specs.Buses.{Bus}
 use Rattle.model.specs.Steps.{Ending, over, over_with, stepped}
 use Rattle.model.specs.Runs.{Ran}
-use Rattle.processor.specs.declared.core.Core.{Core}
+use Rattle.processor.specs.declared.cpu.Core.{Core}
 use Rattle.processor.specs.View.{state_of}
 use Rattle.instructions.specs.Instructions.{instruction}
 

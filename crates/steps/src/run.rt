@@ -5,7 +5,7 @@ ghost use Rattle.steps.specs.View.{Runs};
 use crate::step::step;
 use bus::meaning::Bus;
 use model::{Reason, Record, StepAnswer};
-use processor::core::Core;
+use processor::cpu::Core;
 use queue::Queue;
 use store::meaning::Store;
 

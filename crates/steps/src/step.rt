@@ -8,7 +8,7 @@ ghost use Rattle.steps.specs.View.{Ends, Steps};
 use bus::meaning::Bus;
 use instructions::execute::execute;
 use model::{Cause, Record, StepAnswer, Trap};
-use processor::core::Core;
+use processor::cpu::Core;
 use queue::Queue;
 use registers::words::ProgramAddress;
 use store::meaning::Store;

@@ -4,7 +4,7 @@ ghost use Rattle.transfers.specs.Transfers.{exhr_tree, exbr_tree, lbr_tree, stbr
 
 use bus::meaning::Bus;
 use fields::parts::{bytes_exchanged, halves_exchanged, low_byte, with_low_byte, with_low_half};
-use processor::core::Core;
+use processor::cpu::Core;
 use store::meaning::Store;
 
 /// Moves a register with its halves exchanged.

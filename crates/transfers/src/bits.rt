@@ -6,7 +6,7 @@ use crate::updates::written;
 use bus::meaning::Bus;
 use fields::bits::{bit_of, bit_offset, with_bit, with_bit_flipped, without_bit};
 use model::Trap;
-use processor::core::Core;
+use processor::cpu::Core;
 use registers::words::ProgramAddress;
 use store::meaning::Store;
 

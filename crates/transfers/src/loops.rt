@@ -5,7 +5,7 @@ ghost use Rattle.transfers.specs.Transfers.{raise_tree, bxh_tree, bxle_tree};
 
 use bus::meaning::Bus;
 use operands::addresses::following;
-use processor::core::Core;
+use processor::cpu::Core;
 use registers::words::ProgramAddress;
 use store::meaning::Store;
 use words::sums::sum;

@@ -6,7 +6,7 @@ use fields::parts::{low_byte, low_half};
 use model::Trap;
 use operands::addresses::{load_byte, store_full};
 use operands::functions::result;
-use processor::core::Core;
+use processor::cpu::Core;
 use registers::words::ProgramAddress;
 use store::meaning::Store;
 use words::sums::compare_logical_code;

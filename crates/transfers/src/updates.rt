@@ -6,7 +6,7 @@ use fields::bits::{bit_of, with_bit};
 use fields::parts::low_half;
 use model::Trap;
 use operands::addresses::{load_full, store_full};
-use processor::core::Core;
+use processor::cpu::Core;
 use registers::words::ProgramAddress;
 use store::meaning::Store;
 use words::sums::{extended, sum, sum_code};

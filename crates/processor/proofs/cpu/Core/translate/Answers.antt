@@ -1,6 +1,9 @@
 use Rattle.std.proofs.Common.{rules}
 use Rattle.processor.proofs.Addresses.{address_same}
-use Rattle.processor.proofs.core.Core.check.Goals as goal
+use Rattle.processor.proofs.cpu.Core.translate.Goals as goal
+
+pub returns-then-not-relocated : goal.returns-then-not-relocated
+returns-then-not-relocated g c = let e = address_same c.args.a.at c.args.a.small in search (rules, e)
 
 pub returns-in-Refused : goal.returns-in-Refused
 returns-in-Refused g c = let e = address_same c.args.a.at c.args.a.small in search (rules, e)

@@ -1,6 +1,6 @@
 use Rattle.model.specs.Stores.{full_at}
 use Rattle.std.proofs.Common.{rules}
-use Rattle.processor.proofs.core.Core.full_at.Goals as goal
+use Rattle.processor.proofs.cpu.Core.full_at.Goals as goal
 
 pub returns : goal.returns
 unfolding full_at

@@ -1,6 +1,6 @@
 use Rattle.model.specs.Status.{counter}
 use Rattle.std.proofs.Common.{rules}
-use Rattle.processor.proofs.core.Core.new.Goals as goal
+use Rattle.processor.proofs.cpu.Core.new.Goals as goal
 
 pub returns : goal.returns
 unfolding counter

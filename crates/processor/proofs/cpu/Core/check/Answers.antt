@@ -1,9 +1,6 @@
 use Rattle.std.proofs.Common.{rules}
 use Rattle.processor.proofs.Addresses.{address_same}
-use Rattle.processor.proofs.core.Core.translate.Goals as goal
-
-pub returns-then-not-relocated : goal.returns-then-not-relocated
-returns-then-not-relocated g c = let e = address_same c.args.a.at c.args.a.small in search (rules, e)
+use Rattle.processor.proofs.cpu.Core.check.Goals as goal
 
 pub returns-in-Refused : goal.returns-in-Refused
 returns-in-Refused g c = let e = address_same c.args.a.at c.args.a.small in search (rules, e)

@@ -1,6 +1,6 @@
 use Rattle.std.proofs.Common.{sym, ap}
 use Rattle.outcome.specs.Words.{cause_words}
-use Rattle.outcome.proofs.words.cause_words.Goals as goal
+use Rattle.outcome.proofs.wording.cause_words.Goals as goal
 
 pub returns-in-IllegalInstruction : goal.returns-in-IllegalInstruction
 returns-in-IllegalInstruction c = sym (ap cause_words c.in-IllegalInstruction.is)

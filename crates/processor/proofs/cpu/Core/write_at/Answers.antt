@@ -1,6 +1,6 @@
 use Rattle.processor.specs.Writes.{put}
 use Rattle.std.proofs.Common.{rules}
-use Rattle.processor.proofs.core.Core.write_at.Goals as goal
+use Rattle.processor.proofs.cpu.Core.write_at.Goals as goal
 
 pub returns-then-reaches_controller : goal.returns-then-reaches_controller
 unfolding put

@@ -1,6 +1,6 @@
 use Rattle.std.proofs.Common.{sym, ap}
 use Rattle.outcome.specs.Words.{denial_words}
-use Rattle.outcome.proofs.words.denial_words.Goals as goal
+use Rattle.outcome.proofs.wording.denial_words.Goals as goal
 
 pub returns-in-NoPlace : goal.returns-in-NoPlace
 returns-in-NoPlace c = sym (ap denial_words c.in-NoPlace.is)
