@@ -103,10 +103,10 @@ twin_alike s t e h = record {
       ap (at s.store) (sym r.there) ∙ h.view.window x w ∙ ap (at t.store) (ap (λ (g : List ℕ). place g x) (sym e) ∙ r.there);
 }
 
-still_alike : (c d : Course) → (final c).segments ≡ (final d).segments → StillTwin c d → StillAlike c d
-still_alike (quiet xs u) (quiet ys v) e h = λ n. twin_alike u v e (h n)
-still_alike (quiet xs u) (broken ys q v) e h = tt
-still_alike (broken xs p u) d e h = tt
+still_alike_lem : (c d : Course) → (final c).segments ≡ (final d).segments → StillTwin c d → StillAlike c d
+still_alike_lem (quiet xs u) (quiet ys v) e h = λ n. twin_alike u v e (h n)
+still_alike_lem (quiet xs u) (broken ys q v) e h = tt
+still_alike_lem (broken xs p u) d e h = tt
 
 pub isolation_of_any : IsolationOfAny
 isolation_of_any meaning w v m n a l k p q =
@@ -117,7 +117,7 @@ isolation_of_any meaning w v m n a l k p q =
     record {
       same_answers = x.same_answers;
       still_alike = λ i j.
-          still_alike (course meaning (take i l) w) (course meaning (take j k) v) ((one i).segments ∙ a.segments ∙ sym (other j).segments)
+          still_alike_lem (course meaning (take i l) w) (course meaning (take j k) v) ((one i).segments ∙ a.segments ∙ sym (other j).segments)
           (by_address meaning w v h (take i l) (take j k) (allowed_part meaning i l w p) (allowed_part meaning j k v q)).still_twin;
       one_confined = one;
       other_confined = other;

@@ -21,10 +21,10 @@ abbrev pub and_then : Out → (ℕ → State → Out) → Out
 and_then (went v s) f = f v s
 and_then (stopped c s) f = stopped c s
 
--- ret, stop: goes on with a number, stops. privileged: stops as illegal under protection. reg, setReg: a register of the selected
+-- ret, stop: goes on with a number, stops. privileged: stops as illegal under protection. reg, set_reg: a register of the selected
 -- set. get_code, set_code: the condition code. get_location, jump: the Location Counter. fetch, load, store: a halfword at a program
 -- address; a store makes the new halfword of the old, in one write. check: the checks of an access, and no more. get_status,
--- set_status, answers, sense, read_from, write_to, commandTo: the status and the devices; all privileged. seq: one after the other.
+-- set_status, answers, sense, read_from, write_to, command_to: the status and the devices; all privileged. seq: one after the other.
 pub data Prog : Type 0 where
   ret : ℕ → Prog
   stop : Trap → Prog
