@@ -1,15 +1,24 @@
-ghost use Rattle.std.specs.Prelude.{◌≡◌, ◌%◌};
+ghost use Rattle.std.specs.Prelude.{◌≡◌, ◌%◌, ◌<◌};
 ghost use Rattle.session.specs.Lines.{hex_digit, line_of};
+
+/// The character of a hexadecimal digit, 0 to 9 or A to F.
+#[tactic(auto, unfolding(crate::specs::Lines::hex_digit))]
+pub fn hex_digit(d: u8) -> u8
+    requires { d < 16 }
+    ensures { result ≡ hex_digit d }
+{
+    if d < 10 { b'0' + d } else { b'A' - 10 + d }
+}
 
 /// The character of the last hexadecimal digit of a number.
 fn hex(v: u32) -> u8
     ensures { result ≡ hex_digit (v % 16) }
 {
-    let d = (v % 16) as u8;
-    if d < 10 { b'0' + d } else { b'A' - 10 + d }
+    hex_digit((v % 16) as u8)
 }
 
 /// The Location Counter in 5 hexadecimal digits, a space, the status in 8, a newline.
+#[tactic(auto, unfolding(crate::specs::Lines::line_of))]
 pub fn psw_line(location: u32, status: u32) -> [u8; 15]
     ensures { result ≡ line_of location status }
 {
