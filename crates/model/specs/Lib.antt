@@ -6,6 +6,7 @@ pub mod Controller
 pub mod Effects
 pub mod Steps
 pub mod Answers
+pub mod Words
 pub mod Console
 pub mod Runs
 pub mod Tapes

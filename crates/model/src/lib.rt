@@ -4,6 +4,9 @@
 
 ghost use Rattle.model.specs.Isolation.{Isolation};
 
+mod numbers;
+mod wording;
+
 /// What a place of a store is.
 #[derive(Clone, Copy, PartialEq, Eq)]
 pub enum Kind {
@@ -65,6 +68,14 @@ pub struct Record {
     pub location: u32,
     pub faults: u32,
 }
+
+/// What a slot of a trace holds before any record.
+pub const BLANK: Record = Record {
+    cause: Cause::IllegalInstruction,
+    status: 0,
+    location: 0,
+    faults: 0,
+};
 
 /// What a step answers.
 #[derive(Clone, Copy, PartialEq, Eq)]

@@ -52,6 +52,19 @@ module _ {S B : Type 0} (meaning : S → Store) (devices : B → Bus) where
   abbrev pub Shows : Prog → Core S B → ℕ → Type 0
   Shows p m v = run (devices m.bus) p (state_of m) ≡ went v (state_of m)
 
+  -- Does, Gives and Sets with the bus as it was.
+  pub record DoesQuietly (p : Prog) (m : Core S B) (r : Result (Unit {0}) Trap) (n : Core S B) : Type 0 where
+    pub does : Does p m r n
+    pub quiet : n.bus ≡ m.bus
+
+  pub record GivesQuietly (p : Prog) (m : Core S B) (r : Result ℕ Trap) (n : Core S B) : Type 0 where
+    pub does : Gives p m r n
+    pub quiet : n.bus ≡ m.bus
+
+  pub record SetsQuietly (p : Prog) (m n : Core S B) : Type 0 where
+    pub does : Sets p m n
+    pub quiet : n.bus ≡ m.bus
+
   -- The same of a tree that touches no device, whatever the reply.
   abbrev pub DoesCalmly : Prog → Core S B → Result (Unit {0}) Trap → Core S B → Type 0
   DoesCalmly p m r n = (reply : Bus) → run reply p (state_of m) ≡ out₀ r (state_of n)
@@ -61,3 +74,12 @@ module _ {S B : Type 0} (meaning : S → Store) (devices : B → Bus) where
 
   abbrev pub ShowsCalmly : Prog → Core S B → ℕ → Type 0
   ShowsCalmly p m v = (reply : Bus) → run reply p (state_of m) ≡ went v (state_of m)
+
+  -- .. and with the bus as it was: the processor and its store alone.
+  pub record DoesAlone (p : Prog) (m : Core S B) (r : Result (Unit {0}) Trap) (n : Core S B) : Type 0 where
+    pub does : DoesCalmly p m r n
+    pub quiet : n.bus ≡ m.bus
+
+  pub record GivesAlone (p : Prog) (m : Core S B) (r : Result ℕ Trap) (n : Core S B) : Type 0 where
+    pub does : GivesCalmly p m r n
+    pub quiet : n.bus ≡ m.bus

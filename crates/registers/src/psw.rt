@@ -186,6 +186,15 @@ impl ProgramAddress {
     }
 }
 
+/// The address as a number.
+impl From<ProgramAddress> for u32 {
+    ghost from_gives = { λ a n. (n ≡ a.at) × (n < 2 ^ 20) };
+
+    fn from(a: ProgramAddress) -> u32 {
+        a.at
+    }
+}
+
 impl RealAddress {
     /// The place of the store that holds it.
     pub fn place(self) -> usize

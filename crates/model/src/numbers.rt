@@ -1,0 +1,64 @@
+ghost use Rattle.std.specs.Prelude.{◌≡◌};
+ghost use Rattle.model.specs.Answers.{number, cause_number, step_number, reason_number};
+
+use crate::{Cause, Denial, Reason, StepAnswer};
+
+/// The number of a denial, 1 to 9.
+impl From<Denial> for u8 {
+    ghost from_gives = { λ denial n. n ≡ number denial };
+
+    fn from(denial: Denial) -> u8 {
+        match denial {
+            Denial::NoPlace => 1,
+            Denial::FixedPlace => 2,
+            Denial::NoRegister => 3,
+            Denial::OutOfRange => 4,
+            Denial::UnknownLetter => 5,
+            Denial::CutShort => 6,
+            Denial::KeyOff => 7,
+            Denial::KeyLocked => 8,
+            Denial::TraceFull => 9,
+        }
+    }
+}
+
+/// The number of an interrupt's cause, 2 to 6.
+impl From<Cause> for u8 {
+    ghost from_gives = { λ cause n. n ≡ cause_number cause };
+
+    fn from(cause: Cause) -> u8 {
+        match cause {
+            Cause::IllegalInstruction => 2,
+            Cause::ArithmeticFault => 3,
+            Cause::AccessFault => 4,
+            Cause::SupervisorCall => 5,
+            Cause::DeviceRequest => 6,
+        }
+    }
+}
+
+/// The number of a step's answer: 0 done, 1 waiting, or that of the cause.
+impl From<StepAnswer> for u8 {
+    ghost from_gives = { λ answer n. n ≡ step_number answer };
+
+    fn from(answer: StepAnswer) -> u8 {
+        match answer {
+            StepAnswer::Done => 0,
+            StepAnswer::Waiting => 1,
+            StepAnswer::Interrupted(cause) => u8::from(cause),
+        }
+    }
+}
+
+/// The number of the reason for which a run stopped: 0 waiting, 1 full, 2 count.
+impl From<Reason> for u8 {
+    ghost from_gives = { λ reason n. n ≡ reason_number reason };
+
+    fn from(reason: Reason) -> u8 {
+        match reason {
+            Reason::Waited => 0,
+            Reason::Filled => 1,
+            Reason::Counted => 2,
+        }
+    }
+}
