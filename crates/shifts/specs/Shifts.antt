@@ -3,6 +3,8 @@ use Rattle.std.specs.Int.Signed.{shr_z}
 use Rattle.std.proofs.Common.{of_z}
 use Rattle.std.specs.Int.{w32}
 use Rattle.words.specs.Sums.{full, marks}
+use Rattle.shifts.specs.declared.Shift.{Shift}
+use Rattle.shifts.specs.declared.Shift.TheVariants.{Right, Left, RightArithmetic, LeftArithmetic, RotateRight, RotateLeft}
 
 -- Shifts and rotates of a fullword v by n places, n from 0 to 31.
 
@@ -58,3 +60,20 @@ rotate_right_code v n = marks (rotate_right v n)
 
 unfoldable pub rotate_left_code : ℕ → ℕ → ℕ
 rotate_left_code v n = marks (rotate_left v n)
+
+-- What each shift leaves of v, and the condition code that it sets.
+abbrev pub shifted : Shift → ℕ → ℕ → ℕ
+shifted Right = shift_right
+shifted Left = shift_left
+shifted RightArithmetic = shift_right_arithmetic
+shifted LeftArithmetic = shift_left_arithmetic
+shifted RotateRight = rotate_right
+shifted RotateLeft = rotate_left
+
+abbrev pub shifted_code : Shift → ℕ → ℕ → ℕ
+shifted_code Right = shift_right_code
+shifted_code Left = shift_left_code
+shifted_code RightArithmetic = shift_right_arithmetic_code
+shifted_code LeftArithmetic = shift_left_arithmetic_code
+shifted_code RotateRight = rotate_right_code
+shifted_code RotateLeft = rotate_left_code

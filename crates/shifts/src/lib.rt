@@ -2,44 +2,94 @@
 #![tactic(auto)]
 
 ghost use Rattle.std.specs.Prelude.{◌≡◌, ◌+◌, ◌*◌, ◌%◌, ◌<◌, ◌≤◌};
-ghost use Rattle.words.specs.Sums.{marks};
-ghost use Rattle.shifts.specs.Shifts.{shift_right, shift_left, shift_right_arithmetic, shift_left_arithmetic, rotate_right, rotate_left, out_right, out_left, shift_right_code, shift_left_code, shift_right_arithmetic_code, shift_left_arithmetic_code, rotate_right_code, rotate_left_code};
+ghost use Rattle.words.specs.Sums.{flag, marks};
+ghost use Rattle.shifts.specs.Shifts.{out_right, out_left, shifted, shifted_code};
+ghost use Rattle.shifts.specs.Shifts.{shift_right, shift_left, shift_right_arithmetic, shift_left_arithmetic, rotate_right, rotate_left, shift_right_code, shift_left_code, shift_right_arithmetic_code, shift_left_arithmetic_code, rotate_right_code, rotate_left_code};
 ghost use Rattle.shifts.specs.Laws.{RotatesBack, ShiftExample};
 
-use words::sums::marks;
+use words::codes::{ConditionCode, coded};
+
+/// A shift or a rotate. Zeros come in at a shift, and copies of the sign at `RightArithmetic`; `LeftArithmetic` shifts
+/// the bits below the sign, and the sign stays.
+#[derive(Clone, Copy, PartialEq, Eq)]
+pub enum Shift {
+    Right,
+    Left,
+    RightArithmetic,
+    LeftArithmetic,
+    RotateRight,
+    RotateLeft,
+}
+
+/// The bit of the sign.
+const SIGN: u32 = 0x8000_0000;
+
+/// What a shift leaves of a fullword, and the condition code that it sets.
+#[derive(Clone, Copy, PartialEq, Eq)]
+pub struct Shifted {
+    pub value: u32,
+    pub code: ConditionCode,
+}
+
+impl Shift {
+    /// Shifts a fullword.
+    #[tactic(auto, using(crate::proofs::Turns::left_by_parts, crate::proofs::Turns::right_by_parts), unfolding(crate::specs::Shifts::shift_right, crate::specs::Shifts::shift_left, crate::specs::Shifts::shift_right_arithmetic, crate::specs::Shifts::shift_left_arithmetic, crate::specs::Shifts::shift_right_code, crate::specs::Shifts::shift_left_code, crate::specs::Shifts::shift_right_arithmetic_code, crate::specs::Shifts::shift_left_arithmetic_code, crate::specs::Shifts::rotate_right_code, crate::specs::Shifts::rotate_left_code))]
+    pub fn shifted(self, v: u32, count: u32) -> Shifted
+        ensures value { result.value ≡ shifted self v (count % 32) }
+        ensures code { result.code ≡ shifted_code self v (count % 32) }
+    {
+        let n = count % 32;
+        match self {
+            Shift::Right => carrying(v >> n, out_right(v, n)),
+            Shift::Left => carrying(v << n, out_left(32, v, n)),
+            Shift::RightArithmetic => {
+                let value = (v.cast_signed() >> n).cast_unsigned();
+                carrying(value, out_right(v, n))
+            }
+            Shift::LeftArithmetic => {
+                let value = v / SIGN * SIGN + (v << n) % SIGN;
+                carrying(value, out_left(31, v, n))
+            }
+            Shift::RotateRight => carrying(v.rotate_right(count), false),
+            Shift::RotateLeft => carrying(v.rotate_left(count), false),
+        }
+    }
+}
+
+/// A result, and the condition code for the last bit out.
+fn carrying(value: u32, out: bool) -> Shifted
+    ensures value { result.value ≡ value }
+    ensures code { result.code ≡ flag 8 out + marks value }
+{
+    Shifted {
+        value,
+        code: coded(out, false, value),
+    }
+}
 
 /// The last bit out at the right of a shift by `n`.
-fn out_right(v: u32, n: u32) -> u32
+#[tactic(auto, unfolding(crate::specs::Shifts::out_right))]
+fn out_right(v: u32, n: u32) -> bool
     requires { n < 32 }
-    ensures value { result ≡ out_right v n }
-    ensures small { result < 2 }
+    ensures { flag 8 result ≡ 8 * out_right v n }
 {
-    if n == 0 { 0 } else { (v >> (n - 1)) % 2 }
+    n != 0 && (v >> (n - 1)) % 2 == 1
 }
 
 /// The last bit out at the left of the low `size` bits of a shift by `n`.
-fn out_left(size: u32, v: u32, n: u32) -> u32
+#[tactic(auto, unfolding(crate::specs::Shifts::out_left))]
+fn out_left(size: u32, v: u32, n: u32) -> bool
     requires { (n ≤ size) × (size ≤ 32) }
-    ensures value { result ≡ out_left size v n }
-    ensures small { result < 2 }
+    ensures { flag 8 result ≡ 8 * out_left size v n }
 {
-    if n == 0 { 0 } else { (v >> (size - n)) % 2 }
-}
-
-/// The condition code of a result whose last bit out is `out`.
-fn code(out: u32, res: u32) -> u32
-    requires { out < 2 }
-    ensures value { result ≡ 8 * out + marks res }
-    ensures small { result < 16 }
-{
-    8 * out + marks(res)
+    n != 0 && (v >> (size - n)) % 2 == 1
 }
 
 /// Shifts to the right; zeros come in.
 pub fn shift_right(v: u32, count: u32) -> u32
     ensures { result ≡ shift_right v (count % 32) }
 {
-    v >> (count % 32)
+    Shift::Right.shifted(v, count).value
 }
 
 /// The condition code of `shift_right`.
@@ -47,14 +97,14 @@ pub fn shift_right_code(v: u32, count: u32) -> u32
     ensures value { result ≡ shift_right_code v (count % 32) }
     ensures small { result < 16 }
 {
-    code(out_right(v, count % 32), shift_right(v, count))
+    Shift::Right.shifted(v, count).code.bits()
 }
 
 /// Shifts to the left; zeros come in.
 pub fn shift_left(v: u32, count: u32) -> u32
     ensures { result ≡ shift_left v (count % 32) }
 {
-    v << (count % 32)
+    Shift::Left.shifted(v, count).value
 }
 
 /// The condition code of `shift_left`.
@@ -62,14 +112,14 @@ pub fn shift_left_code(v: u32, count: u32) -> u32
     ensures value { result ≡ shift_left_code v (count % 32) }
     ensures small { result < 16 }
 {
-    code(out_left(32, v, count % 32), shift_left(v, count))
+    Shift::Left.shifted(v, count).code.bits()
 }
 
 /// Shifts to the right; copies of the sign come in.
 pub fn shift_right_arithmetic(v: u32, count: u32) -> u32
     ensures { result ≡ shift_right_arithmetic v (count % 32) }
 {
-    (v.cast_signed() >> (count % 32)).cast_unsigned()
+    Shift::RightArithmetic.shifted(v, count).value
 }
 
 /// The condition code of `shift_right_arithmetic`.
@@ -77,14 +127,14 @@ pub fn shift_right_arithmetic_code(v: u32, count: u32) -> u32
     ensures value { result ≡ shift_right_arithmetic_code v (count % 32) }
     ensures small { result < 16 }
 {
-    code(out_right(v, count % 32), shift_right_arithmetic(v, count))
+    Shift::RightArithmetic.shifted(v, count).code.bits()
 }
 
 /// Shifts the bits below the sign to the left; zeros come in, and the sign stays.
 pub fn shift_left_arithmetic(v: u32, count: u32) -> u32
     ensures { result ≡ shift_left_arithmetic v (count % 32) }
 {
-    v / 0x8000_0000 * 0x8000_0000 + (v << (count % 32)) % 0x8000_0000
+    Shift::LeftArithmetic.shifted(v, count).value
 }
 
 /// The condition code of `shift_left_arithmetic`.
@@ -92,14 +142,14 @@ pub fn shift_left_arithmetic_code(v: u32, count: u32) -> u32
     ensures value { result ≡ shift_left_arithmetic_code v (count % 32) }
     ensures small { result < 16 }
 {
-    code(out_left(31, v, count % 32), shift_left_arithmetic(v, count))
+    Shift::LeftArithmetic.shifted(v, count).code.bits()
 }
 
 /// Rotates to the right.
 pub fn rotate_right(v: u32, count: u32) -> u32
     ensures { result ≡ rotate_right v (count % 32) }
 {
-    v.rotate_right(count)
+    Shift::RotateRight.shifted(v, count).value
 }
 
 /// The condition code of `rotate_right`.
@@ -107,14 +157,14 @@ pub fn rotate_right_code(v: u32, count: u32) -> u32
     ensures value { result ≡ rotate_right_code v (count % 32) }
     ensures small { result < 16 }
 {
-    marks(rotate_right(v, count))
+    Shift::RotateRight.shifted(v, count).code.bits()
 }
 
 /// Rotates to the left.
 pub fn rotate_left(v: u32, count: u32) -> u32
     ensures { result ≡ rotate_left v (count % 32) }
 {
-    v.rotate_left(count)
+    Shift::RotateLeft.shifted(v, count).value
 }
 
 /// The condition code of `rotate_left`.
@@ -122,7 +172,7 @@ pub fn rotate_left_code(v: u32, count: u32) -> u32
     ensures value { result ≡ rotate_left_code v (count % 32) }
     ensures small { result < 16 }
 {
-    marks(rotate_left(v, count))
+    Shift::RotateLeft.shifted(v, count).code.bits()
 }
 
 /// A rotate and the rotate back give the number again.

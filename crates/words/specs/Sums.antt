@@ -1,4 +1,6 @@
 use Rattle.std.specs.Prelude.{ℕ, ◌+◌, ◌-◌, ◌%◌, ◌^◌, Bool, cond, ℤ, pos, ◌+ℤ◌, ◌-ℤ◌, int_lt, nat_le, nat_lt}
+use Rattle.std.specs.declared.cmp.Ordering.{Ordering}
+use Rattle.std.specs.declared.cmp.Ordering.TheVariants.{Less, Equal, Greater}
 use Rattle.std.specs.Int.Signed.{mag}
 use Rattle.std.proofs.Common.{to_z, of_z}
 use Rattle.std.specs.Int.{w16, w32}
@@ -35,6 +37,12 @@ difference x y = (2 ^ 32 + x - y) % 2 ^ 32
 
 unfoldable pub difference_code : ℕ → ℕ → ℕ
 difference_code x y = flag 8 (nat_lt x y) + flag 4 (out_of_range (full x -ℤ full y)) + marks (difference x y)
+
+-- The condition code of a comparison: C and L if less, G if greater, 0 if equal.
+abbrev pub compared : Ordering → ℕ
+compared Less = 9
+compared Equal = 0
+compared Greater = 2
 
 -- Comparison as signed numbers, and as numbers from 0 on: C and L if less, G if greater, 0 if equal.
 unfoldable pub compare_code : ℕ → ℕ → ℕ

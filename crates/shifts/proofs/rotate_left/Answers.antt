@@ -1,6 +1,0 @@
-use Rattle.std.proofs.Common.{◌%◌, ◌∙◌, arith}
-use Rattle.shifts.proofs.Turns.{left_by_parts}
-use Rattle.shifts.proofs.rotate_left.Goals as goal
-
-pub returns : goal.returns
-returns c = c.rotate_left.ensures ∙ left_by_parts c.args.v (c.args.count % 32) (omega arith) (omega arith)
