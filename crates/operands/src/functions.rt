@@ -6,9 +6,8 @@ use bus::meaning::Bus;
 use decode::operations::Function;
 use processor::cpu::Core;
 use store::meaning::Store;
-use words::sums::{
-    compare_code, compare_logical_code, difference, difference_code, marks, sum, sum_code,
-};
+use words::codes::marks;
+use words::sums::{compare_code, compare_logical_code, difference, difference_code, sum, sum_code};
 
 /// A result that goes to a register, with its marks.
 pub fn result<S: Store, B: Bus>(m: &mut Core<S, B>, r1: u8, value: u32)
@@ -16,7 +15,7 @@ pub fn result<S: Store, B: Bus>(m: &mut Core<S, B>, r1: u8, value: u32)
     ensures quiet { m.new.bus ≡ m.old.bus }
 {
     m.set_reg(r1, value);
-    m.set_code(marks(value));
+    m.set_code(marks(value).bits());
 }
 
 /// Applies a function of a family to a register and an operand.
@@ -27,19 +26,19 @@ pub fn apply<S: Store, B: Bus>(m: &mut Core<S, B>, function: Function, r1: u8, y
     let x = m.reg(r1);
     match function {
         Function::And => result(m, r1, x & y),
-        Function::CompareLogical => m.set_code(compare_logical_code(x, y)),
+        Function::CompareLogical => m.set_code(compare_logical_code(x, y).bits()),
         Function::Or => result(m, r1, x | y),
         Function::ExclusiveOr => result(m, r1, x ^ y),
         Function::Load => result(m, r1, y),
-        Function::Compare => m.set_code(compare_code(x, y)),
+        Function::Compare => m.set_code(compare_code(x, y).bits()),
         Function::Add => {
             m.set_reg(r1, sum(x, y));
-            m.set_code(sum_code(x, y));
+            m.set_code(sum_code(x, y).bits());
         }
         Function::Subtract => {
             m.set_reg(r1, difference(x, y));
-            m.set_code(difference_code(x, y));
+            m.set_code(difference_code(x, y).bits());
         }
-        Function::Test => m.set_code(marks(x & y)),
+        Function::Test => m.set_code(marks(x & y).bits()),
     }
 }

@@ -97,7 +97,7 @@ pub fn clb<S: Store, B: Bus>(
 {
     let value = m.reg(r1);
     let byte = load_byte(m, a)?;
-    m.set_code(compare_logical_code(low_byte(value) as u32, byte as u32));
+    m.set_code(compare_logical_code(low_byte(value) as u32, byte as u32).bits());
     m.jump(next);
     Ok(())
 }

@@ -39,7 +39,7 @@ pub fn am<S: Store, B: Bus>(
     let x = m.reg(r1);
     let y = load_full(m, a.to_full())?;
     store_full(m, a.to_full(), sum(y, x))?;
-    m.set_code(sum_code(y, x));
+    m.set_code(sum_code(y, x).bits());
     m.jump(next);
     Ok(())
 }
@@ -56,7 +56,13 @@ pub fn ahm<S: Store, B: Bus>(
     let x = m.reg(r1);
     let half = m.load(a.to_half())?;
     let y = extended(half);
-    written(m, a.to_half(), low_half(sum(y, x)), sum_code(y, x), next)
+    written(
+        m,
+        a.to_half(),
+        low_half(sum(y, x)),
+        sum_code(y, x).bits(),
+        next,
+    )
 }
 
 /// Sets the first bit of a halfword, and says what it was.
