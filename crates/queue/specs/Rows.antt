@@ -1,4 +1,4 @@
-use Rattle.std.specs.Prelude.{ℕ, min, List, ◌++◌, length, take, drop}
+use Rattle.std.specs.Prelude.{◌≡◌, ℕ, ◌<◌, min, List, ◌++◌, length, take, drop}
 use Rattle.queue.specs.declared.Queue.{Queue}
 
 -- n elements of the ring xs, from place i on, round its end.
@@ -16,3 +16,12 @@ queued q = held q.slots.now q.head q.count
 -- How many items a queue can hold.
 abbrev pub capacity : {X : Type 0} → Queue X → ℕ
 capacity q = length q.slots.now
+
+-- Whether one more item fits.
+abbrev pub HasRoom : {X : Type 0} → Queue X → Type 0
+HasRoom q = length (queued q) < capacity q
+
+-- Whether two queues lie over the same lent slots: one loan, and as many slots.
+pub record SameSlots {X : Type 0} (old new : Queue X) : Type 0 where
+  pub loan : new.slots.ghost_name ≡ old.slots.ghost_name
+  pub size : capacity new ≡ capacity old

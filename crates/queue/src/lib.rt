@@ -1,8 +1,8 @@
 //! A queue over lent slots: first in, first out.
 #![tactic(auto)]
 
-ghost use Rattle.std.specs.Prelude.{◌≡◌, ◌+◌, ◌-◌, ◌<◌, ◌≤◌, min, true, false, ◌⊎◌, [], ◌∷◌, ◌++◌, length, drop, MatchOption, ◌==◌, nat_le, nat_lt, slice_index_or};
-ghost use Rattle.queue.specs.Rows.{queued, capacity};
+ghost use Rattle.std.specs.Prelude.{◌≡◌, ◌+◌, ◌-◌, ◌<◌, ◌≤◌, ◌↔◌, min, ◌⊎◌, [], ◌∷◌, ◌++◌, length, drop, MatchOption, IsOk, IfErr, OnOk, ◌==◌, nat_le, slice_index_or};
+ghost use Rattle.queue.specs.Rows.{queued, capacity, HasRoom, SameSlots};
 
 /// A queue over lent slots, the oldest item at `head`.
 #[derive(Drop)]
@@ -83,31 +83,29 @@ impl<'a, X: Copy> Queue<'a, X> {
         self.len() >= self.slots.len()
     }
 
-    /// Adds an item behind the others, and says whether it fitted. A full queue stays as it is.
-    pub fn push(&mut self, item: X) -> bool
-        ensures fits { result ≡ nat_lt (length (queued self.old)) (capacity self.old) }
-        ensures refused { result ≡ false → self.new ≡ self.old }
-        ensures pushed { result ≡ true → queued self.new ≡ queued self.old ++ item ∷ [] }
-        ensures same { self.new.slots.ghost_name ≡ self.old.slots.ghost_name }
-        ensures room { capacity self.new ≡ capacity self.old }
+    /// Adds an item behind the others. A full queue stays as it is, and the item comes back.
+    pub fn push(&mut self, item: X) -> Result<(), X>
+        ensures fits { IsOk result ↔ HasRoom self.old }
+        ensures refused { IfErr result (λ x. (x ≡ item) × (self.new ≡ self.old)) }
+        ensures pushed { OnOk result (queued self.new ≡ queued self.old ++ item ∷ []) }
+        ensures same { SameSlots self.old self.new }
     {
         let n = least(self.count, self.slots.len());
         if n >= self.slots.len() {
-            return false;
+            return Err(item);
         }
         let i = least(self.head, self.slots.len());
         let at = place(i, n, self.slots.len());
         self.slots[at] = item;
         self.head = i;
         self.count = n + 1;
-        true
+        Ok(())
     }
 
     /// Takes the oldest item. An empty queue stays as it is.
     pub fn pop(&mut self) -> Option<X>
         ensures popped { MatchOption result ((queued self.old ≡ []) × (self.new ≡ self.old)) (λ x. queued self.old ≡ x ∷ queued self.new) }
-        ensures same { self.new.slots.ghost_name ≡ self.old.slots.ghost_name }
-        ensures room { capacity self.new ≡ capacity self.old }
+        ensures same { SameSlots self.old self.new }
     {
         let n = least(self.count, self.slots.len());
         if n == 0 {

@@ -82,7 +82,7 @@ fn strip_over_few_places(rt: HostRuntime) {
 fn joined_buses(rt: HostRuntime) {
     let mut slots = [0; 4];
     let mut bytes = Queue::new(&mut slots);
-    assert!(rt; bytes.push(65));
+    assert_eq!(rt; bytes.push(65), Ok(()));
     let mut bus = JoinedBus::new(Teletype::new(bytes), Drives::new());
     assert!(rt; !bus.answers(0) && !bus.answers(255));
     assert_eq!(rt; bus.requesting(), None);

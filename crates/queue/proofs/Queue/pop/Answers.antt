@@ -10,6 +10,5 @@ returns g c =
     record {
       popped =
           held_out c.args.self.now.slots.now c.args.self.now.head c.args.self.now.count c.least-i.result c.least-n.result c.place-at.result _ c.least-i.ensures c.least-n.ensures c.if-n-eq0.false c.place-at.ensures.inside c.place-at.ensures.turned;
-      same = refl;
-      room = refl;
+      same = record { loan = refl; size = refl };
     }

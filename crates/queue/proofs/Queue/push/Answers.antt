@@ -12,8 +12,6 @@ returns g c =
       fits = search (rules, held_length);
       refused = search rules;
       pushed =
-          λ _.
           held_push xs c.args.self.now.head c.args.self.now.count c.least-i.result c.least-n.result c.place-at.result c.args.item c.least-i.ensures c.least-n.ensures c.if-n-self.false c.place-at.ensures.inside c.place-at.ensures.turned;
-      same = refl;
-      room = length-set xs c.place-at.result c.args.item;
+      same = record { loan = refl; size = length-set xs c.place-at.result c.args.item };
     }
