@@ -12,23 +12,6 @@ use std::io;
 use std::io::Read;
 use tape::orders::TapeFault;
 
-/// Reads into the buffer until it is full or the input ends, and says how many bytes there are.
-fn read_up_to(rt: &HostRuntime, buffer: &mut [u8]) -> io::Result<usize> {
-    let mut input = rt.stdin();
-    let mut filled = 0;
-    for _ in 0..65_536 {
-        if filled >= buffer.len() {
-            break;
-        }
-        let more = input.read(&mut buffer[filled..])?;
-        if more == 0 {
-            break;
-        }
-        filled += more;
-    }
-    Ok(filled)
-}
-
 /// Prints a tape's fault: its place, the letter there and the denial.
 fn print_fault(rt: &HostRuntime, fault: TapeFault) -> io::Result<()> {
     let place = fault.place;
@@ -55,17 +38,24 @@ fn print_ending(rt: &HostRuntime, ending: Result<usize, TapeFault>) -> io::Resul
     }
 }
 
+/// Prints numbers in so many hexadecimal digits, a space before each, and ends the line.
+fn print_row<T: Copy + Into<u32>>(
+    rt: &HostRuntime,
+    digits: usize,
+    numbers: &[T],
+) -> io::Result<()> {
+    for number in numbers {
+        print!(rt; " {:0digits$X}", (*number).into())?;
+    }
+    println!(rt; "")
+}
+
 /// Prints sixteen registers, eight to a line.
 fn print_registers(rt: &HostRuntime, title: &str, registers: &[u32; 16]) -> io::Result<()> {
     println!(rt; "{title}")?;
-    for number in 0..16usize {
-        if number % 8 == 0 {
-            print!(rt; "{number:5}:")?;
-        }
-        print!(rt; " {:08X}", registers[number])?;
-        if number % 8 == 7 {
-            println!(rt; "")?;
-        }
+    for (number, row) in (0u8..).step_by(8).zip(registers.chunks(8)) {
+        print!(rt; "{number:5}:")?;
+        print_row(rt, 8, row)?;
     }
     Ok(())
 }
@@ -97,33 +87,13 @@ fn print_trace(rt: &HostRuntime, trace: &Queue<'_, Record>) -> io::Result<()> {
     Ok(())
 }
 
-/// Whether no halfword differs from zero.
-fn all_zero(words: &[u16]) -> bool {
-    for word in words {
-        if *word != 0 {
-            return false;
-        }
-    }
-    true
-}
-
-/// Prints eight halfwords, or fewer, behind their real address.
-fn print_halfwords(rt: &HostRuntime, address: usize, words: &[u16]) -> io::Result<()> {
-    print!(rt; "{address:05X}:")?;
-    for word in words {
-        print!(rt; " {:04X}", *word)?;
-    }
-    println!(rt; "")
-}
-
 /// Prints the halfwords of the store, eight to a line; lines of zeros are left out.
 fn print_store(rt: &HostRuntime, words: &[u16]) -> io::Result<()> {
     println!(rt; "Store, where it is not zero")?;
-    for line in 0..4096usize {
-        if let Some(part) = words.get(8 * line..8 * line + 8) {
-            if !all_zero(part) {
-                print_halfwords(rt, 16 * line, part)?;
-            }
+    for (address, row) in (0usize..).step_by(16).zip(words.chunks(8)) {
+        if row.iter().any(|word| *word != 0) {
+            print!(rt; "{address:05X}:")?;
+            print_row(rt, 4, row)?;
         }
     }
     Ok(())
@@ -146,7 +116,7 @@ fn print_played(
 
 fn main(rt: HostRuntime) -> io::Result<()> {
     let heap = rt.alloc();
-    let mut buffer = vec![in heap; 0u8; 65_536]?;
+    let mut tape = Vec::new(heap);
     let mut words = vec![in heap; 0u16; 32_768]?;
     let mut slots = [Record {
         cause: Cause::IllegalInstruction,
@@ -154,9 +124,6 @@ fn main(rt: HostRuntime) -> io::Result<()> {
         location: 0,
         faults: 0,
     }; 64];
-    let length = read_up_to(&rt, &mut buffer)?;
-    match buffer.get(0..length) {
-        Some(tape) => print_played(&rt, tape, &mut words, &mut slots),
-        None => print_played(&rt, &[], &mut words, &mut slots),
-    }
+    rt.stdin().take(65_536).read_to_end(&mut tape)?;
+    print_played(&rt, &tape, &mut words, &mut slots)
 }
