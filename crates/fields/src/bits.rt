@@ -5,6 +5,7 @@ ghost use Rattle.fields.specs.Bits.{bit_offset, bit_weight, bit_of, with_bit, wi
 ghost use Rattle.fields.specs.Laws.{BitsWritten, BitsKept};
 
 /// How many bytes after the first halfword of a row of bits bit `n` has its halfword.
+#[tactic(auto, unfolding(crate::specs::Bits::bit_offset))]
 pub fn bit_offset(n: u32) -> u32
     ensures { result ≡ bit_offset n }
 {
@@ -12,6 +13,7 @@ pub fn bit_offset(n: u32) -> u32
 }
 
 /// The weight of bit `n` in its halfword.
+#[tactic(auto, unfolding(crate::specs::Bits::bit_weight))]
 fn bit_weight(n: u32) -> u16
     ensures { result ≡ bit_weight n }
 {
@@ -19,6 +21,8 @@ fn bit_weight(n: u32) -> u16
 }
 
 /// Bit `n` in its halfword.
+// A number: every caller puts it into the condition code, as a weight or times one.
+#[tactic(auto, unfolding(crate::specs::Bits::bit_of, crate::specs::Bits::bit_weight))]
 pub fn bit_of(n: u32, h: u16) -> u32
     ensures value { result ≡ bit_of n h }
     ensures small { result < 2 }
@@ -27,6 +31,7 @@ pub fn bit_of(n: u32, h: u16) -> u32
 }
 
 /// The halfword with bit `n` 1.
+#[tactic(auto, using(crate::proofs::Places::weight_fits), unfolding(crate::specs::Bits::with_bit))]
 pub fn with_bit(n: u32, h: u16) -> u16
     ensures { result ≡ with_bit n h }
 {
@@ -38,6 +43,7 @@ pub fn with_bit(n: u32, h: u16) -> u16
 }
 
 /// The halfword with bit `n` 0.
+#[tactic(auto, using(crate::proofs::Places::weight_within), unfolding(crate::specs::Bits::without_bit))]
 pub fn without_bit(n: u32, h: u16) -> u16
     ensures { result ≡ without_bit n h }
 {
@@ -49,6 +55,7 @@ pub fn without_bit(n: u32, h: u16) -> u16
 }
 
 /// The halfword with bit `n` complemented.
+#[tactic(auto, unfolding(crate::specs::Bits::with_bit_flipped, crate::specs::Bits::with_bit, crate::specs::Bits::without_bit))]
 pub fn with_bit_flipped(n: u32, h: u16) -> u16
     ensures { result ≡ with_bit_flipped n h }
 {
@@ -60,11 +67,13 @@ pub fn with_bit_flipped(n: u32, h: u16) -> u16
 }
 
 /// A bit that was written is what was written.
+#[tactic(auto, using(crate::proofs::Places::bits_written_lem))]
 pub fn bits_written()
     ensures { BitsWritten }
 {}
 
 /// The other bits stay.
+#[tactic(auto, using(crate::proofs::Places::bits_kept_lem))]
 pub fn bits_kept()
     ensures { BitsKept }
 {}

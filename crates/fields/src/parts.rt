@@ -5,6 +5,7 @@ ghost use Rattle.fields.specs.Parts.{high_half, low_half, joined, with_low_half,
 ghost use Rattle.fields.specs.Laws.{HalvesJoined};
 
 /// The high halfword of a fullword.
+#[tactic(auto, unfolding(crate::specs::Parts::high_half))]
 pub fn high_half(v: u32) -> u16
     ensures { result ≡ high_half v }
 {
@@ -12,6 +13,7 @@ pub fn high_half(v: u32) -> u16
 }
 
 /// The low halfword of a fullword.
+#[tactic(auto, unfolding(crate::specs::Parts::low_half))]
 pub fn low_half(v: u32) -> u16
     ensures { result ≡ low_half v }
 {
@@ -19,6 +21,7 @@ pub fn low_half(v: u32) -> u16
 }
 
 /// The fullword of two halfwords.
+#[tactic(auto, unfolding(crate::specs::Parts::joined))]
 pub fn joined(high: u16, low: u16) -> u32
     ensures { result ≡ joined high low }
 {
@@ -26,6 +29,7 @@ pub fn joined(high: u16, low: u16) -> u32
 }
 
 /// The fullword with another low halfword.
+#[tactic(auto, unfolding(crate::specs::Parts::with_low_half))]
 pub fn with_low_half(v: u32, h: u16) -> u32
     ensures { result ≡ with_low_half v h }
 {
@@ -33,6 +37,7 @@ pub fn with_low_half(v: u32, h: u16) -> u32
 }
 
 /// The fullword with its halfwords exchanged.
+#[tactic(auto, unfolding(crate::specs::Parts::halves_exchanged))]
 pub fn halves_exchanged(v: u32) -> u32
     ensures { result ≡ halves_exchanged v }
 {
@@ -40,6 +45,7 @@ pub fn halves_exchanged(v: u32) -> u32
 }
 
 /// The low byte of a fullword.
+#[tactic(auto, unfolding(crate::specs::Parts::low_byte))]
 pub fn low_byte(v: u32) -> u8
     ensures { result ≡ low_byte v }
 {
@@ -47,6 +53,8 @@ pub fn low_byte(v: u32) -> u8
 }
 
 /// The fullword with another low byte.
+// Not one with `with_low_half`: a size as a parameter would have to be required to divide 2^32.
+#[tactic(auto, unfolding(crate::specs::Parts::with_low_byte))]
 pub fn with_low_byte(v: u32, b: u8) -> u32
     ensures { result ≡ with_low_byte v b }
 {
@@ -54,6 +62,7 @@ pub fn with_low_byte(v: u32, b: u8) -> u32
 }
 
 /// The low halfword of a fullword, with its bytes exchanged.
+#[tactic(auto, unfolding(crate::specs::Parts::bytes_exchanged))]
 pub fn bytes_exchanged(v: u32) -> u16
     ensures { result ≡ bytes_exchanged v }
 {
@@ -61,6 +70,8 @@ pub fn bytes_exchanged(v: u32) -> u16
 }
 
 /// The byte of a halfword at an odd or an even address.
+// A bool: it is the parity of an address, which its callers have from `is_odd`.
+#[tactic(auto, unfolding(crate::specs::Parts::byte_at))]
 pub fn byte_at(odd: bool, h: u16) -> u8
     ensures { result ≡ byte_at odd h }
 {
@@ -72,6 +83,7 @@ pub fn byte_at(odd: bool, h: u16) -> u8
 }
 
 /// The halfword with another byte at an odd or an even address.
+#[tactic(auto, unfolding(crate::specs::Parts::with_byte))]
 pub fn with_byte(odd: bool, h: u16, b: u8) -> u16
     ensures { result ≡ with_byte odd h b }
 {
@@ -83,6 +95,7 @@ pub fn with_byte(odd: bool, h: u16, b: u8) -> u16
 }
 
 /// The device that a register names.
+#[tactic(auto, unfolding(crate::specs::Parts::device_number))]
 pub fn device_number(v: u32) -> u32
     ensures value { result ≡ device_number v }
     ensures small { result < 2 ^ 10 }
@@ -91,6 +104,7 @@ pub fn device_number(v: u32) -> u32
 }
 
 /// Halves joined and exchanged give the fullword again.
+#[tactic(auto, unfolding(crate::specs::Parts::joined, crate::specs::Parts::high_half, crate::specs::Parts::low_half, crate::specs::Parts::halves_exchanged))]
 pub fn halves_join()
     ensures { HalvesJoined }
 {}

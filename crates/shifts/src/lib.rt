@@ -176,11 +176,13 @@ pub fn rotate_left_code(v: u32, count: u32) -> u32
 }
 
 /// A rotate and the rotate back give the number again.
+#[tactic(auto, using(crate::proofs::Turns::rotates_back_lem))]
 pub fn rotates_back()
     ensures { RotatesBack }
 {}
 
 /// A worked value of the shift to the left.
+#[tactic(auto, unfolding(crate::specs::Shifts::shift_left, crate::specs::Shifts::shift_left_code, crate::specs::Shifts::out_left, words::specs::Sums::marks))]
 pub fn shift_example()
     ensures { ShiftExample }
 {}

@@ -1,3 +1,2 @@
-mod Additions
 mod Divisions
 mod Multiples

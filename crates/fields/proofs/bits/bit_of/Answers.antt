@@ -1,7 +1,0 @@
-use Rattle.fields.specs.Bits.{bit_of, bit_weight}
-use Rattle.std.proofs.Common.{rules}
-use Rattle.fields.proofs.bits.bit_of.Goals as goal
-
-pub returns : goal.returns
-unfolding bit_of bit_weight
-returns c = search rules
