@@ -5,6 +5,7 @@ ghost use Rattle.decode.specs.Table.{TableHolds, CountsHold};
 use crate::operations::{Function, ImmediateOp, MemoryOp, Operation, RegisterOp, ShortOp};
 
 /// What the second digit of a code stands for, in the families.
+#[tactic(auto, unfolding(crate::specs::Codes::function_of))]
 fn function_of(digit: u8) -> Function
     ensures { result ≡ function_of digit }
 {
@@ -22,16 +23,18 @@ fn function_of(digit: u8) -> Function
 }
 
 /// Whether a code is privileged.
+#[tactic(auto, unfolding(crate::specs::Codes::is_privileged))]
 pub fn is_privileged(code: u8) -> bool
     ensures { result ≡ is_privileged code }
 {
-    match code {
-        0x18 | 0x95 | 0x9a | 0x9b | 0x9d | 0x9e | 0xc2 | 0xda | 0xdb | 0xdd | 0xde => true,
-        _ => false,
-    }
+    matches!(
+        code,
+        0x18 | 0x95 | 0x9a | 0x9b | 0x9d | 0x9e | 0xc2 | 0xda | 0xdb | 0xdd | 0xde
+    )
 }
 
 /// The codes X'00' to X'3F' outside the families.
+#[tactic(auto, unfolding(crate::specs::Codes::low))]
 fn low(code: u8) -> Operation
     ensures { result ≡ low code }
 {
@@ -58,6 +61,7 @@ fn low(code: u8) -> Operation
 }
 
 /// The codes X'40' to X'7F' outside the families.
+#[tactic(auto, unfolding(crate::specs::Codes::middle))]
 fn middle(code: u8) -> Operation
     ensures { result ≡ middle code }
 {
@@ -81,6 +85,7 @@ fn middle(code: u8) -> Operation
 }
 
 /// The codes X'80' to X'BF'.
+#[tactic(auto, unfolding(crate::specs::Codes::upper))]
 fn upper(code: u8) -> Operation
     ensures { result ≡ upper code }
 {
@@ -98,6 +103,7 @@ fn upper(code: u8) -> Operation
 }
 
 /// The codes X'C0' to X'FF' outside the families.
+#[tactic(auto, unfolding(crate::specs::Codes::high))]
 fn high(code: u8) -> Operation
     ensures { result ≡ high code }
 {
@@ -128,6 +134,7 @@ fn high(code: u8) -> Operation
 }
 
 /// What a code stands for; a privileged one is illegal under protection.
+#[tactic(auto, unfolding(crate::specs::Codes::permitted))]
 pub fn operation(code: u8, protected: bool) -> Operation
     ensures { result ≡ permitted protected code }
 {
@@ -146,6 +153,7 @@ pub fn operation(code: u8, protected: bool) -> Operation
 }
 
 /// The rules of the codes give the whole table.
+#[tactic(auto, unfolding(crate::specs::Codes::function_of, crate::specs::Codes::low, crate::specs::Codes::middle, crate::specs::Codes::upper, crate::specs::Codes::high, crate::specs::Codes::is_privileged))]
 pub fn table_holds()
     ensures table { TableHolds }
     ensures counts { CountsHold }

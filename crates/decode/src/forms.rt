@@ -19,6 +19,7 @@ pub fn form_of(operation: Operation) -> Form
 }
 
 /// The operation code in a first halfword.
+#[tactic(auto, unfolding(crate::specs::Forms::code_field))]
 pub fn code_field(first: u16) -> u8
     ensures { result ≡ code_field first }
 {
@@ -26,6 +27,7 @@ pub fn code_field(first: u16) -> u8
 }
 
 /// The field R1 of a first halfword.
+#[tactic(auto, unfolding(crate::specs::Forms::first_field))]
 pub fn first_field(first: u16) -> u8
     ensures value { result ≡ first_field first }
     ensures small { result < 16 }
@@ -34,6 +36,7 @@ pub fn first_field(first: u16) -> u8
 }
 
 /// The field R2, N, X2 or FX2 of a first halfword.
+#[tactic(auto, unfolding(crate::specs::Forms::second_field))]
 pub fn second_field(first: u16) -> u8
     ensures value { result ≡ second_field first }
     ensures small { result < 16 }
@@ -42,6 +45,7 @@ pub fn second_field(first: u16) -> u8
 }
 
 /// Whether a second halfword begins 01, so that a third follows (RX3).
+#[tactic(auto, unfolding(crate::specs::Forms::is_long))]
 pub fn is_long(second: u16) -> bool
     ensures { result ≡ is_long second }
 {
@@ -49,6 +53,7 @@ pub fn is_long(second: u16) -> bool
 }
 
 /// The second index field of RX3.
+#[tactic(auto, unfolding(crate::specs::Forms::index_field))]
 pub fn index_field(second: u16) -> u8
     ensures value { result ≡ index_field second }
     ensures small { result < 16 }
@@ -77,6 +82,7 @@ pub struct Parts<'a> {
     pub rest: &'a [u16],
 }
 
+#[tactic(auto, using(std::proofs::lemmas::List::take_rest))]
 fn single<'a>(words: &'a [u16]) -> Option<Parts<'a>>
     ensures { MatchOption result (length words.now < 1) (λ p. Taken 1 words.now p.first p.second p.third p.rest.now) }
 {
@@ -91,6 +97,7 @@ fn single<'a>(words: &'a [u16]) -> Option<Parts<'a>>
     }
 }
 
+#[tactic(auto, using(std::proofs::lemmas::List::take_rest))]
 fn pair<'a>(words: &'a [u16]) -> Option<Parts<'a>>
     ensures { MatchOption result (length words.now < 2) (λ p. Taken 2 words.now p.first p.second p.third p.rest.now) }
 {
@@ -105,6 +112,7 @@ fn pair<'a>(words: &'a [u16]) -> Option<Parts<'a>>
     }
 }
 
+#[tactic(auto, using(std::proofs::lemmas::List::take_rest))]
 fn triple<'a>(words: &'a [u16]) -> Option<Parts<'a>>
     ensures { MatchOption result (length words.now < 3) (λ p. Taken 3 words.now p.first p.second p.third p.rest.now) }
 {
@@ -134,6 +142,7 @@ pub fn take_apart<'a>(form: Form, words: &'a [u16]) -> Option<Parts<'a>>
     }
 }
 
+#[tactic(auto, unfolding(crate::specs::Forms::signed15))]
 fn signed_15(v: u32) -> u32
     requires { v < 2 ^ 15 }
     ensures value { result ≡ signed15 v }
@@ -143,6 +152,7 @@ fn signed_15(v: u32) -> u32
 }
 
 /// The address of an instruction, by its own address, its second and third halfwords, and the index registers.
+#[tactic(auto, unfolding(crate::specs::Forms::address_of))]
 pub fn address_of(own: u32, second: u16, third: u16, index: u32, second_index: u32) -> u32
     ensures value { result ≡ address_of own second third index second_index }
     ensures small { result < 2 ^ 20 }
@@ -161,6 +171,7 @@ pub fn address_of(own: u32, second: u16, third: u16, index: u32, second_index: u
 }
 
 /// Every code has one form.
+#[tactic(auto, unfolding(crate::specs::Codes::function_of, crate::specs::Codes::low, crate::specs::Codes::middle, crate::specs::Codes::upper, crate::specs::Codes::high))]
 pub fn forms_hold()
     ensures { FormsHold }
 {}
