@@ -9,12 +9,10 @@ pub fn form_of(operation: Operation) -> Form
     ensures { result ≡ form_of operation }
 {
     match operation {
-        Operation::Register(_) => Form::Single,
-        Operation::Short(_) => Form::Single,
+        Operation::Register(_) | Operation::Short(_) | Operation::Illegal => Form::Single,
         Operation::Memory(_) => Form::Indexed,
         Operation::Immediate(_) => Form::Pair,
         Operation::LongImmediate(_) => Form::Triple,
-        Operation::Illegal => Form::Single,
     }
 }
 
@@ -27,6 +25,8 @@ pub fn code_field(first: u16) -> u8
 }
 
 /// The field R1 of a first halfword.
+// A u8 with its bound beside it, and so the two fields below: the registers and masks take any u8, and each call would
+// take the number out of a type of its own at once.
 #[tactic(auto, unfolding(crate::specs::Forms::first_field))]
 pub fn first_field(first: u16) -> u8
     ensures value { result ≡ first_field first }
@@ -82,63 +82,35 @@ pub struct Parts<'a> {
     pub rest: &'a [u16],
 }
 
+/// Takes the instruction at the front of a list of halfwords apart, by its form; none where the list is too short for it.
 #[tactic(auto, using(std::proofs::lemmas::List::take_rest))]
-fn single<'a>(words: &'a [u16]) -> Option<Parts<'a>>
-    ensures { MatchOption result (length words.now < 1) (λ p. Taken 1 words.now p.first p.second p.third p.rest.now) }
+pub fn take_apart<'a>(form: Form, words: &'a [u16]) -> Option<Parts<'a>>
+    ensures { MatchOption result (length words.now < size_at form words.now) (λ p. Taken (size_at form words.now) words.now p.first p.second p.third p.rest.now) }
 {
-    match words {
-        [first, rest @ ..] => Some(Parts {
+    let size = match words {
+        [_, second, ..] => size_of(form, *second),
+        _ => size_of(form, 0),
+    };
+    match (size, words) {
+        (1, [first, rest @ ..]) => Some(Parts {
             first: *first,
             second: 0,
             third: 0,
             rest,
         }),
-        _ => None,
-    }
-}
-
-#[tactic(auto, using(std::proofs::lemmas::List::take_rest))]
-fn pair<'a>(words: &'a [u16]) -> Option<Parts<'a>>
-    ensures { MatchOption result (length words.now < 2) (λ p. Taken 2 words.now p.first p.second p.third p.rest.now) }
-{
-    match words {
-        [first, second, rest @ ..] => Some(Parts {
+        (2, [first, second, rest @ ..]) => Some(Parts {
             first: *first,
             second: *second,
             third: 0,
             rest,
         }),
-        _ => None,
-    }
-}
-
-#[tactic(auto, using(std::proofs::lemmas::List::take_rest))]
-fn triple<'a>(words: &'a [u16]) -> Option<Parts<'a>>
-    ensures { MatchOption result (length words.now < 3) (λ p. Taken 3 words.now p.first p.second p.third p.rest.now) }
-{
-    match words {
-        [first, second, third, rest @ ..] => Some(Parts {
+        (3, [first, second, third, rest @ ..]) => Some(Parts {
             first: *first,
             second: *second,
             third: *third,
             rest,
         }),
         _ => None,
-    }
-}
-
-/// Takes the instruction at the front of a list of halfwords apart, by its form; none where the list is too short for it.
-pub fn take_apart<'a>(form: Form, words: &'a [u16]) -> Option<Parts<'a>>
-    ensures { MatchOption result (length words.now < size_at form words.now) (λ p. Taken (size_at form words.now) words.now p.first p.second p.third p.rest.now) }
-{
-    match form {
-        Form::Single => single(words),
-        Form::Indexed => match words {
-            [_, second, ..] if is_long(*second) => triple(words),
-            _ => pair(words),
-        },
-        Form::Pair => pair(words),
-        Form::Triple => triple(words),
     }
 }
 

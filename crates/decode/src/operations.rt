@@ -109,6 +109,8 @@ pub enum Operation {
     Immediate(ImmediateOp),
     /// RI2.
     LongImmediate(Function),
+    /// No instruction.
+    // Not `None` of an Option: an illegal code has a form like the others.
     Illegal,
 }
 

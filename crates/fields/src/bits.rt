@@ -21,7 +21,7 @@ fn bit_weight(n: u32) -> u16
 }
 
 /// Bit `n` in its halfword.
-// A number: every caller puts it into the condition code, as a weight or times one.
+// A number: each caller multiplies it by a weight of the condition code.
 #[tactic(auto, unfolding(crate::specs::Bits::bit_of, crate::specs::Bits::bit_weight))]
 pub fn bit_of(n: u32, h: u16) -> u32
     ensures value { result ≡ bit_of n h }
