@@ -31,39 +31,27 @@ pub fn bit_of(n: u32, h: u16) -> u32
 }
 
 /// The halfword with bit `n` 1.
-#[tactic(auto, using(crate::proofs::Places::weight_fits), unfolding(crate::specs::Bits::with_bit))]
+#[tactic(auto, using(crate::proofs::Places::set_is))]
 pub fn with_bit(n: u32, h: u16) -> u16
     ensures { result ≡ with_bit n h }
 {
-    if bit_of(n, h) == 0 {
-        h + bit_weight(n)
-    } else {
-        h
-    }
+    h | bit_weight(n)
 }
 
 /// The halfword with bit `n` 0.
-#[tactic(auto, using(crate::proofs::Places::weight_within), unfolding(crate::specs::Bits::without_bit))]
+#[tactic(auto, using(crate::proofs::Places::cleared_is))]
 pub fn without_bit(n: u32, h: u16) -> u16
     ensures { result ≡ without_bit n h }
 {
-    if bit_of(n, h) == 0 {
-        h
-    } else {
-        h - bit_weight(n)
-    }
+    h & !bit_weight(n)
 }
 
 /// The halfword with bit `n` complemented.
-#[tactic(auto, unfolding(crate::specs::Bits::with_bit_flipped, crate::specs::Bits::with_bit, crate::specs::Bits::without_bit))]
+#[tactic(auto, using(crate::proofs::Places::flipped_is))]
 pub fn with_bit_flipped(n: u32, h: u16) -> u16
     ensures { result ≡ with_bit_flipped n h }
 {
-    if bit_of(n, h) == 0 {
-        with_bit(n, h)
-    } else {
-        without_bit(n, h)
-    }
+    h ^ bit_weight(n)
 }
 
 /// A bit that was written is what was written.
