@@ -1,10 +1,11 @@
-use Rattle.std.proofs.Common.{◌≡◌, ℕ, ◌+◌, ◌-◌, ◌*◌, ◌%◌, ◌^◌, ◌<◌, max, sym, ap, ◌∙◌, ⊎_elim, arith, rules}
+use Rattle.std.proofs.Common.{◌≡◌, ℕ, ◌+◌, ◌-◌, ◌*◌, ◌/◌, ◌%◌, ◌^◌, ◌<◌, max, sym, ap, ◌∙◌, ⊎_elim, arith, rules}
 use lib.Bits.{bit_and, bit_or, bit_xor}
 use Rattle.std.specs.Int.{bit_at}
-use Rattle.std.proofs.lemmas.Nat.{and_comm, and-not, or_disjoint, pow_below}
+use Rattle.std.proofs.lemmas.Nat.{and_comm, and-not, or_disjoint, or_shifted, pow_below}
 use Rattle.std.proofs.lemmas.Nat.Bits.{and_pow, bit_at_or, bit_at_xor, bit_at-pow_same, bit_at-pow_other, bit_at-lt, same_from_bits}
 use Rattle.std.proofs.lemmas.Bool.{cases_eq}
 use Rattle.fields.specs.Bits.{bit_weight, bit_of, with_bit, without_bit, with_bit_flipped}
+use Rattle.fields.specs.Parts.{halves_exchanged}
 use Rattle.fields.specs.Laws.{BitsWritten, BitsKept}
 
 -- Bit k of h by an or,
@@ -44,12 +45,12 @@ xor_1 k h b =
     let g = bit_xor h (2 ^ k) in
     let z : bit_at g k ≡ 0 = omega (arith, bit_at_xor h (2 ^ k) k, bit_at-pow_same k, bit_at-lt h k) in
     let back : bit_or g (2 ^ k) ≡ h =
-        same_from_bits (bit_or g (2 ^ k)) h (λ i.
-        bit_at_or g (2 ^ k) i
-        ∙ ⊎_elim
-        (λ (e : i ≡ k). rw e (omega (arith, bit_at-pow_same k, z, bit_at-lt h k)))
-        (λ (e : i ≡ k → ⊥). omega (arith, bit_at-pow_other k i e, bit_at_xor h (2 ^ k) i, bit_at-lt h i))
-        (cases_eq i k))
+    same_from_bits (bit_or g (2 ^ k)) h (λ i.
+    bit_at_or g (2 ^ k) i
+    ∙ ⊎_elim
+    (λ (e : i ≡ k). rw e (omega (arith, bit_at-pow_same k, z, bit_at-lt h k)))
+    (λ (e : i ≡ k → ⊥). omega (arith, bit_at-pow_other k i e, bit_at_xor h (2 ^ k) i, bit_at-lt h i))
+    (cases_eq i k))
     in
     omega (arith, or_0 k g z, back)
 
@@ -122,3 +123,10 @@ bits_kept_lem = (
       (cases_eq (bit_of n h) 0),
   λ m n h ne. of_flipped m n h ∙ omega (arith, others m n ne, bit_small m h),
 )
+
+-- A rotate by a halfword.
+pub halves_turned : (v : ℕ) → v < 2 ^ 32 → bit_or ((v * 2 ^ 16) % 2 ^ 32) (v / 2 ^ 16) ≡ halves_exchanged v
+unfolding halves_exchanged
+halves_turned v l =
+    let e : (v * 2 ^ 16) % 2 ^ 32 ≡ (v % 2 ^ 16) * 2 ^ 16 = omega arith in
+    ap (λ x. bit_or x (v / 2 ^ 16)) e ∙ or_shifted (v % 2 ^ 16) 16 (v / 2 ^ 16) (omega arith)

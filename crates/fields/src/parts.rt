@@ -37,11 +37,11 @@ pub fn with_low_half(v: u32, h: u16) -> u32
 }
 
 /// The fullword with its halfwords exchanged.
-#[tactic(auto, unfolding(crate::specs::Parts::halves_exchanged))]
+#[tactic(auto, using(crate::proofs::Places::halves_turned))]
 pub fn halves_exchanged(v: u32) -> u32
     ensures { result ≡ halves_exchanged v }
 {
-    v % 0x1_0000 * 0x1_0000 + v / 0x1_0000
+    v.rotate_left(16)
 }
 
 /// The low byte of a fullword.
@@ -62,11 +62,11 @@ pub fn with_low_byte(v: u32, b: u8) -> u32
 }
 
 /// The low halfword of a fullword, with its bytes exchanged.
-#[tactic(auto, unfolding(crate::specs::Parts::bytes_exchanged))]
+#[tactic(auto, unfolding(crate::specs::Parts::bytes_exchanged, crate::specs::Parts::low_half))]
 pub fn bytes_exchanged(v: u32) -> u16
     ensures { result ≡ bytes_exchanged v }
 {
-    (v % 0x100 * 0x100 + v / 0x100 % 0x100) as u16
+    low_half(v).swap_bytes()
 }
 
 /// The byte of a halfword at an odd or an even address.
@@ -75,11 +75,8 @@ pub fn bytes_exchanged(v: u32) -> u16
 pub fn byte_at(odd: bool, h: u16) -> u8
     ensures { result ≡ byte_at odd h }
 {
-    if odd {
-        (h % 0x100) as u8
-    } else {
-        (h / 0x100) as u8
-    }
+    let [high, low] = h.to_be_bytes();
+    if odd { low } else { high }
 }
 
 /// The halfword with another byte at an odd or an even address.
@@ -87,11 +84,8 @@ pub fn byte_at(odd: bool, h: u16) -> u8
 pub fn with_byte(odd: bool, h: u16, b: u8) -> u16
     ensures { result ≡ with_byte odd h b }
 {
-    if odd {
-        h / 0x100 * 0x100 + b as u16
-    } else {
-        b as u16 * 0x100 + h % 0x100
-    }
+    let [high, low] = h.to_be_bytes();
+    u16::from_be_bytes(if odd { [high, b] } else { [b, low] })
 }
 
 /// The device that a register names.
