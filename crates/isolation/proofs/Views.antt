@@ -1,13 +1,13 @@
 -- What a protected program sees, by its own addresses: each reaches equal places in both machines, wherever these stand.
-use Rattle.std.proofs.Common.{◌≡◌, ℕ, zero, suc, ◌/◌, ◌%◌, ◌^◌, ◌<◌, Bool, true, false, cond, T, eqb, ◌↔◌, List, [], ◌∷◌, length, get_or, set, sym, refl, ap, ◌∙◌, subst, arith, eqb→eq}
+use Rattle.std.proofs.Common.{◌≡◌, ℕ, zero, suc, ◌/◌, ◌%◌, ◌^◌, ◌<◌, Bool, true, false, cond, Ok, Err, T, eqb, ◌↔◌, List, [], ◌∷◌, length, get_or, set, sym, refl, ap, ◌∙◌, subst, arith, eqb→eq}
 use lib.Dec.{eqb_refl}
 use Rattle.model.specs.declared.Access.{Access}
 use Rattle.model.specs.declared.Access.TheVariants.{Fetch, Read, Write}
-use Rattle.model.specs.declared.Verdict.{Verdict}
-use Rattle.model.specs.declared.Verdict.TheVariants.{Refused, Granted, Reported}
+use Rattle.model.specs.declared.Grant.TheVariants.{Plain, Reported}
+use Rattle.model.specs.declared.Violation.TheVariants.{WriteProtected}
 use Rattle.model.specs.Stores.{Store, at, stored, revised}
 use Rattle.model.specs.Status.{relocated, protected, upper, recoded, selected, slot, address}
-use Rattle.model.specs.Controller.{within, present, no_execute, write_mode, lets_write, judged, verdict, place}
+use Rattle.model.specs.Controller.{within, present, no_execute, write_mode, lets_write, judged, Verdict, verdict, place}
 use Rattle.isolation.specs.Windows.{Protected, Reaches, InWritableWindow}
 
 -- ── Status ──
@@ -34,9 +34,8 @@ protected_upper a b h p = record { relocates = relocated_upper a b h ∙ p.reloc
 -- ── Verdicts ──
 -- The access is done.
 abbrev pub Passes : Verdict → Type 0
-Passes (Refused b) = ⊥
-Passes Granted = Unit {0}
-Passes Reported = Unit {0}
+Passes (Err x) = ⊥
+Passes (Ok g) = Unit {0}
 
 -- An address that an access may use reaches its place.
 abbrev pub Visible : List ℕ → ℕ → Type 0
@@ -51,14 +50,14 @@ passes_window Fetch true true true m h = absurd h
 passes_window Fetch true true false m h = (refl, refl)
 passes_window Write true true e m h = (refl, refl)
 
-passes_on_write : (b : Bool) (v : Verdict) → Passes (cond b (Refused 4) v) → cond b false true ≡ true
+passes_on_write : (b : Bool) (v : Verdict) → Passes (cond b (Err WriteProtected) v) → cond b false true ≡ true
 passes_on_write true v h = absurd h
 passes_on_write false v h = refl
 
 passes_write : (w p e : Bool) (m : ℕ) → Passes (judged Write w p e m) → lets_write m ≡ true
 passes_write false p e m h = absurd h
 passes_write true false e m h = absurd h
-passes_write true true e m h = passes_on_write (eqb (m % 2) 1) (cond (eqb m 2) Reported Granted) h
+passes_write true true e m h = passes_on_write (eqb (m % 2) 1) (cond (eqb m 2) (Ok Reported) (Ok Plain)) h
 
 address_short : (a : ℕ) → address a < 2 ^ 20
 unfolding address

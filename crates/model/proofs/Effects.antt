@@ -1,18 +1,17 @@
 -- Trees of effects: two machines that look alike run alike, a protected one is confined, and the number of registers stays.
 -- One induction over the tree for each.
-use Rattle.std.proofs.Common.{◌≡◌, ℕ, ◌/◌, Bool, true, false, cond, List, length, get_or, set, sym, refl, ap, ◌∙◌, subst, length-set, get_or-set_other}
+use Rattle.std.proofs.Common.{◌≡◌, ℕ, ◌/◌, Bool, true, false, cond, Ok, Err, List, length, get_or, set, sym, refl, ap, ◌∙◌, subst, length-set, get_or-set_other}
 use mathlib.Core.Bool.{false≢true}
 use lib.Bits.{bit_or}
 use Rattle.model.specs.declared.Access.{Access}
 use Rattle.model.specs.declared.Access.TheVariants.{Fetch, Read, Write}
-use Rattle.model.specs.declared.Verdict.{Verdict}
-use Rattle.model.specs.declared.Verdict.TheVariants.{Refused, Granted, Reported}
+use Rattle.model.specs.declared.Grant.TheVariants.{Plain, Reported}
 use Rattle.model.specs.declared.Trap.TheVariants.{Illegal, Refusal}
 use Rattle.model.specs.Stores.{Store, Place, at, revised, half_at}
 use Rattle.model.specs.Buses.{Bus}
 use Rattle.model.specs.States.{State, with_status, with_location, with_faults, with_pending, with_registers, with_store}
 use Rattle.model.specs.Status.{relocated, protected, code_of, upper, recoded, register_count, selected, slot, address}
-use Rattle.model.specs.Controller.{verdict, real, place, write_report}
+use Rattle.model.specs.Controller.{Verdict, verdict, real, place, fault_bit, write_report}
 use Rattle.model.specs.Effects.{Out, went, stopped, Prog, ret, stop, privileged, reg, set_reg, get_code, set_code, get_location, jump, fetch, load, store, check, get_status, set_status, answers, sense, read_from, write_to, command_to, seq, and_then, admitted, translated, inspected, checked, reaches_controller, read_at, written_at, unless_protected, run}
 use Rattle.model.specs.Windows.{Protected, InWritableWindow}
 use Rattle.model.proofs.Views.{upper_recoded, selected_upper, protected_upper, Passes, Visible, in_view, in_writable, same_verdict, SameView, view_revised, stored_other, set_agrees, slot_set}
@@ -20,27 +19,27 @@ use Rattle.model.proofs.Views.{upper_recoded, selected_upper, protected_upper, P
 -- ── Accesses with relocation on ──
 -- A read and a write at the real address r that the controller has judged.
 abbrev read_by : Verdict → ℕ → State → Out
-read_by (Refused b) r s = stopped Refusal (with_faults (bit_or s.faults b) s)
-read_by Granted r s = went (half_at s.store r) s
-read_by Reported r s = went (half_at s.store r) (with_pending true (with_faults (bit_or s.faults write_report) s))
+read_by (Err x) r s = stopped Refusal (with_faults (bit_or s.faults (fault_bit x)) s)
+read_by (Ok Plain) r s = went (half_at s.store r) s
+read_by (Ok Reported) r s = went (half_at s.store r) (with_pending true (with_faults (bit_or s.faults write_report) s))
 
 abbrev write_by : Verdict → ℕ → (ℕ → ℕ) → State → Out
-write_by (Refused b) r f s = stopped Refusal (with_faults (bit_or s.faults b) s)
-write_by Granted r f s = went 0 (with_store (revised s.store (r / 2) f) s)
-write_by Reported r f s = went 0 (with_store (revised s.store (r / 2) f) (with_pending true (with_faults (bit_or s.faults write_report) s)))
+write_by (Err x) r f s = stopped Refusal (with_faults (bit_or s.faults (fault_bit x)) s)
+write_by (Ok Plain) r f s = went 0 (with_store (revised s.store (r / 2) f) s)
+write_by (Ok Reported) r f s = went 0 (with_store (revised s.store (r / 2) f) (with_pending true (with_faults (bit_or s.faults write_report) s)))
 
 -- Relocation on, an access never reaches the controller's own addresses.
 judged_read : (v : Verdict) (r : ℕ) (s : State) → relocated s.status ≡ true → and_then (admitted v r s) read_at ≡ read_by v r s
-judged_read (Refused b) r s e = refl
-judged_read Granted r s e = rw e
-judged_read Reported r s e = rw e
+judged_read (Err x) r s e = refl
+judged_read (Ok Plain) r s e = rw e
+judged_read (Ok Reported) r s e = rw e
 
 judged_write :
     (v : Verdict) (r : ℕ) (f : ℕ → ℕ) (s : State) → relocated s.status ≡ true →
     and_then (admitted v r s) (λ r t. went 0 (written_at r f t)) ≡ write_by v r f s
-judged_write (Refused b) r f s e = refl
-judged_write Granted r f s e = rw e
-judged_write Reported r f s e = rw e
+judged_write (Err x) r f s e = refl
+judged_write (Ok Plain) r f s e = rw e
+judged_write (Ok Reported) r f s e = rw e
 
 relocated_read :
     (u : Access) (a : ℕ) (s : State) → relocated s.status ≡ true →
@@ -155,21 +154,20 @@ same_then (stopped c s) (stopped d t) f g h k = h
 same_read :
     (v : Verdict) (r q : ℕ) (s t : State) → Abreast s t → (Passes v → at s.store (r / 2) ≡ at t.store (q / 2)) →
     SameOut (read_by v r s) (read_by v q t)
-same_read (Refused b) r q s t h w = (refl, h.1)
-same_read Granted r q s t h w = let e = w tt in ((cc), h)
-same_read Reported r q s t h w = let e = w tt in ((cc), (refl, h.1))
+same_read (Err x) r q s t h w = (refl, h.1)
+same_read (Ok Plain) r q s t h w = let e = w tt in ((cc), h)
+same_read (Ok Reported) r q s t h w = let e = w tt in ((cc), (refl, h.1))
 
 same_write :
     (v : Verdict) (a : ℕ) (f : ℕ → ℕ) (s t : State) → Abreast s t → (Passes v → Visible s.segments a) →
     SameOut (write_by v (real s.segments a) f s) (write_by v (real t.segments a) f t)
-same_write (Refused b) a f s t h w = (refl, h.1)
-same_write Granted a f s t h w = (refl, (h.0, twin_store a f s t (w tt) h.1))
-same_write Reported a f s t h w = (refl, (refl, twin_store a f s t (w tt) h.1))
+same_write (Err x) a f s t h w = (refl, h.1)
+same_write (Ok Plain) a f s t h w = (refl, (h.0, twin_store a f s t (w tt) h.1))
+same_write (Ok Reported) a f s t h w = (refl, (refl, twin_store a f s t (w tt) h.1))
 
 same_check : (v : Verdict) (s t : State) → Abreast s t → SameOut (inspected v s) (inspected v t)
-same_check (Refused b) s t h = (refl, h.1)
-same_check Granted s t h = (refl, h)
-same_check Reported s t h = (refl, h)
+same_check (Err x) s t h = (refl, h.1)
+same_check (Ok g) s t h = (refl, h)
 
 module _ (s t : State) (h : Abreast s t) where
   relocates' : relocated t.status ≡ true
@@ -303,9 +301,9 @@ kept_on true s x u p h = h
 kept_on false s x u p h = absurd (false≢true p)
 
 kept_read : (v : Verdict) (r : ℕ) (s : State) → KeptBy s (read_by v r s)
-kept_read (Refused b) r s = kept_same s
-kept_read Granted r s = kept_same s
-kept_read Reported r s = kept_same s
+kept_read (Err x) r s = kept_same s
+kept_read (Ok Plain) r s = kept_same s
+kept_read (Ok Reported) r s = kept_same s
 
 kept_store : (p : ℕ) (f : ℕ → ℕ) (s : State) → InWritableWindow s.segments p → Kept s (with_store (revised s.store p f) s) (at s.store)
 kept_store p f s w =
@@ -313,14 +311,13 @@ kept_store p f s w =
     (λ q o. stored_other s.store p q (f (s.store.word p)) (λ e. o (subst (InWritableWindow s.segments) (sym e) w)))
 
 kept_write : (v : Verdict) (r : ℕ) (f : ℕ → ℕ) (s : State) → (Passes v → InWritableWindow s.segments (r / 2)) → KeptBy s (write_by v r f s)
-kept_write (Refused b) r f s w = kept_same s
-kept_write Granted r f s w = kept_store (r / 2) f s (w tt)
-kept_write Reported r f s w = kept_store (r / 2) f s (w tt)
+kept_write (Err x) r f s w = kept_same s
+kept_write (Ok Plain) r f s w = kept_store (r / 2) f s (w tt)
+kept_write (Ok Reported) r f s w = kept_store (r / 2) f s (w tt)
 
 kept_check : (v : Verdict) (s : State) → KeptBy s (inspected v s)
-kept_check (Refused b) s = kept_same s
-kept_check Granted s = kept_same s
-kept_check Reported s = kept_same s
+kept_check (Err x) s = kept_same s
+kept_check (Ok g) s = kept_same s
 
 module _ (s : State) (g : Protected s.status) where
   reads_kept : (u : Access) (a : ℕ) → KeptBy s (and_then (translated u (address a) s) read_at)
@@ -387,14 +384,13 @@ full_then (went v t) f h k = k v t h
 full_then (stopped c t) f h k = h
 
 full_admitted : (v : Verdict) (r : ℕ) (s : State) → Full s → FullOut (admitted v r s)
-full_admitted (Refused b) r s h = h
-full_admitted Granted r s h = h
-full_admitted Reported r s h = h
+full_admitted (Err x) r s h = h
+full_admitted (Ok Plain) r s h = h
+full_admitted (Ok Reported) r s h = h
 
 full_inspected : (v : Verdict) (s : State) → Full s → FullOut (inspected v s)
-full_inspected (Refused b) s h = h
-full_inspected Granted s h = h
-full_inspected Reported s h = h
+full_inspected (Err x) s h = h
+full_inspected (Ok g) s h = h
 
 full_translated : (u : Access) (a : ℕ) (s : State) → Full s → FullOut (translated u a s)
 full_translated u a s h = full_if (relocated s.status) _ _ (full_admitted (verdict u s.segments a) _ s h) h

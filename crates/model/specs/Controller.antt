@@ -1,9 +1,11 @@
 -- The access controller: segmentation registers, the checks of an access, and the registers as a program reaches them.
-use Rattle.std.specs.Prelude.{ℕ, ◌+◌, ◌*◌, ◌/◌, ◌%◌, ◌^◌, Bool, true, false, cond, List, ◌==◌, nat_le, nat_lt, slice_index, slice_set}
+use Rattle.std.specs.Prelude.{ℕ, ◌+◌, ◌*◌, ◌/◌, ◌%◌, ◌^◌, Bool, true, false, cond, List, Ok, Err, Result, ◌==◌, nat_le, nat_lt, bit_or, slice_index, slice_set}
 use Rattle.model.specs.declared.Access.{Access}
 use Rattle.model.specs.declared.Access.TheVariants.{Fetch, Read, Write}
-use Rattle.model.specs.declared.Verdict.{Verdict}
-use Rattle.model.specs.declared.Verdict.TheVariants.{Refused, Granted, Reported}
+use Rattle.model.specs.declared.Grant.{Grant}
+use Rattle.model.specs.declared.Grant.TheVariants.{Plain, Reported}
+use Rattle.model.specs.declared.Violation.{Violation}
+use Rattle.model.specs.declared.Violation.TheVariants.{Limit, Absent, NoExecute, WriteProtected}
 use Rattle.model.specs.Status.{bit}
 
 -- ── A segmentation register ──
@@ -73,20 +75,36 @@ write_report = 2
 abbrev pub execute_fault : ℕ
 execute_fault = 1
 
+-- The bit that a violation sets.
+abbrev pub fault_bit : Violation → ℕ
+fault_bit Limit = limit_fault
+fault_bit Absent = absent_fault
+fault_bit NoExecute = execute_fault
+fault_bit WriteProtected = write_fault
+
+-- What the controller says of an access: how it is let through, or why it is not.
+abbrev pub Verdict : Type 0
+Verdict = Result Grant Violation
+
+-- The interrupt status after a verdict.
+abbrev pub faults_noted : Verdict → ℕ → ℕ
+faults_noted (Ok g) faults = faults
+faults_noted (Err v) faults = bit_or faults (fault_bit v)
+
 -- W 01 and 11 refuse a write, 10 lets it through and reports it, 00 lets it through.
 abbrev pub lets_write : ℕ → Bool
 lets_write w = cond (w % 2 == 1) false true
 
 abbrev pub on_write : ℕ → Verdict
-on_write w = cond (w % 2 == 1) (Refused write_fault) (cond (w == 2) Reported Granted)
+on_write w = cond (w % 2 == 1) (Err WriteProtected) (cond (w == 2) (Ok Reported) (Ok Plain))
 
 -- The first check that fails decides: the block within the limit, P, E for a fetch, W for a write.
 abbrev pub judged : Access → Bool → Bool → Bool → ℕ → Verdict
-judged u false p e w = Refused limit_fault
-judged u true false e w = Refused absent_fault
-judged Fetch true true true w = Refused execute_fault
-judged Fetch true true false w = Granted
-judged Read true true e w = Granted
+judged u false p e w = Err Limit
+judged u true false e w = Err Absent
+judged Fetch true true true w = Err NoExecute
+judged Fetch true true false w = Ok Plain
+judged Read true true e w = Ok Plain
 judged Write true true e w = on_write w
 
 abbrev pub verdict : Access → List ℕ → ℕ → Verdict

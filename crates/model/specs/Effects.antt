@@ -1,16 +1,15 @@
 -- What an instruction can do to the machine: single effects, and one after the other. An instruction is a tree of effects.
-use Rattle.std.specs.Prelude.{ℕ, ◌/◌, Bool, true, false, cond, bit_or, slice_index, slice_set}
+use Rattle.std.specs.Prelude.{ℕ, ◌/◌, Bool, true, false, cond, Ok, Err, bit_or, slice_index, slice_set}
 use Rattle.model.specs.declared.Access.{Access}
 use Rattle.model.specs.declared.Access.TheVariants.{Fetch, Read, Write}
-use Rattle.model.specs.declared.Verdict.{Verdict}
-use Rattle.model.specs.declared.Verdict.TheVariants.{Refused, Granted, Reported}
+use Rattle.model.specs.declared.Grant.TheVariants.{Plain, Reported}
 use Rattle.model.specs.declared.Trap.{Trap}
 use Rattle.model.specs.declared.Trap.TheVariants.{Illegal, Refusal}
 use Rattle.model.specs.Stores.{revised, half_at}
 use Rattle.model.specs.Buses.{Bus, changed, was_read, was_written, was_commanded}
 use Rattle.model.specs.States.{State, with_status, with_location, with_faults, with_pending, with_registers, with_segments, with_store, with_bus}
 use Rattle.model.specs.Status.{relocated, protected, code_of, recoded, selected, slot, counter, address}
-use Rattle.model.specs.Controller.{real, verdict, write_report, is_controller, controller_half, segments_after, faults_after_read}
+use Rattle.model.specs.Controller.{real, Verdict, verdict, fault_bit, write_report, is_controller, controller_half, segments_after, faults_after_read}
 
 -- How a tree of effects ends: it goes on with a number, or it stops.
 pub data Out : Type 0 where
@@ -52,9 +51,9 @@ pub data Prog : Type 0 where
 -- The real address of an access that the controller has judged. A refused one sets its interrupt status bit and stops the
 -- instruction; a reported one sets its bit and leaves the report for later.
 abbrev pub admitted : Verdict → ℕ → State → Out
-admitted (Refused b) r s = stopped Refusal (with_faults (bit_or s.faults b) s)
-admitted Granted r s = went r s
-admitted Reported r s = went r (with_pending true (with_faults (bit_or s.faults write_report) s))
+admitted (Err v) r s = stopped Refusal (with_faults (bit_or s.faults (fault_bit v)) s)
+admitted (Ok Plain) r s = went r s
+admitted (Ok Reported) r s = went r (with_pending true (with_faults (bit_or s.faults write_report) s))
 
 -- With relocation off, both addresses are equal, and nothing is checked.
 abbrev pub translated : Access → ℕ → State → Out
@@ -62,9 +61,8 @@ translated u a s = cond (relocated s.status) (admitted (verdict u s.segments a) 
 
 -- The checks alone: nothing is reported, since nothing is written.
 abbrev pub inspected : Verdict → State → Out
-inspected (Refused b) s = stopped Refusal (with_faults (bit_or s.faults b) s)
-inspected Granted s = went 0 s
-inspected Reported s = went 0 s
+inspected (Err v) s = stopped Refusal (with_faults (bit_or s.faults (fault_bit v)) s)
+inspected (Ok g) s = went 0 s
 
 abbrev pub checked : Access → ℕ → State → Out
 checked u a s = cond (relocated s.status) (inspected (verdict u s.segments a) s) (went 0 s)

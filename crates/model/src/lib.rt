@@ -26,15 +26,26 @@ pub enum Access {
     Write,
 }
 
-/// What the access controller says of an access.
+/// How the access controller lets an access through.
 #[derive(Clone, Copy, PartialEq, Eq)]
-pub enum Verdict {
-    /// Not done; the interrupt status bit that it sets.
-    Refused(u8),
-    /// Done.
-    Granted,
-    /// Done, with an interrupt when the instruction has ended.
+pub enum Grant {
+    /// With no more.
+    Plain,
+    /// With an interrupt when the instruction has ended.
     Reported,
+}
+
+/// Why the access controller refuses an access.
+#[derive(Clone, Copy, PartialEq, Eq)]
+pub enum Violation {
+    /// The block number is over the segment's limit.
+    Limit,
+    /// The segment is not present.
+    Absent,
+    /// A fetch of an instruction from a segment of data.
+    NoExecute,
+    /// A write in a segment that is protected from writes.
+    WriteProtected,
 }
 
 /// Why an instruction ends otherwise than by going on.

@@ -1,7 +1,32 @@
 ghost use Rattle.std.specs.Prelude.{◌≡◌};
+ghost use Rattle.model.specs.declared.Trap.TheVariants.{Refusal};
 ghost use Rattle.model.specs.Answers.{number, cause_number, step_number, reason_number};
+ghost use Rattle.model.specs.Controller.{fault_bit};
 
-use crate::{Cause, Denial, Reason, StepAnswer};
+use crate::{Cause, Denial, Reason, StepAnswer, Trap, Violation};
+
+/// The bit of the interrupt status that a violation sets.
+impl From<Violation> for u8 {
+    ghost from_gives = { λ violation n. n ≡ fault_bit violation };
+
+    fn from(violation: Violation) -> u8 {
+        match violation {
+            Violation::Limit => 16,
+            Violation::Absent => 8,
+            Violation::NoExecute => 1,
+            Violation::WriteProtected => 4,
+        }
+    }
+}
+
+/// A violation stops the instruction.
+impl From<Violation> for Trap {
+    ghost from_gives = { λ _ trap. trap ≡ Refusal };
+
+    fn from(_violation: Violation) -> Trap {
+        Trap::Refusal
+    }
+}
 
 /// The number of a denial, 1 to 9.
 impl From<Denial> for u8 {

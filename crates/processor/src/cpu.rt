@@ -2,7 +2,7 @@ ghost use Rattle.std.specs.Prelude.{◌≡◌, false};
 ghost use Rattle.model.specs.Effects.{reg, set_reg, get_code, set_code, get_location, jump};
 ghost use Rattle.model.specs.States.{with_pending};
 ghost use Rattle.model.specs.Console.{fresh};
-ghost use Rattle.processor.specs.View.{state_of, Sets, Shows};
+ghost use Rattle.processor.specs.View.{state_of, SetsQuietly, Shows, Becomes};
 
 use bus::meaning::Bus;
 use registers::controller::Controller;
@@ -24,6 +24,7 @@ pub struct Core<S, B> {
 
 impl<S: Store, B: Bus> Core<S, B> {
     /// A processor at its start.
+    #[tactic(auto, unfolding(model::specs::Status::counter))]
     pub fn new(store: S, bus: B) -> Core<S, B>
         ensures { state_of S.Store.meaning B.Bus.devices result ≡ fresh (S.Store.meaning store) (B.Bus.devices bus) }
     {
@@ -46,8 +47,7 @@ impl<S: Store, B: Bus> Core<S, B> {
 
     /// Gives a register of the selected set another number.
     pub fn set_reg(&mut self, number: u8, value: u32)
-        ensures does { Sets S.Store.meaning B.Bus.devices (set_reg number value) self.old self.new }
-        ensures quiet { self.new.bus ≡ self.old.bus }
+        ensures { SetsQuietly S.Store.meaning B.Bus.devices (set_reg number value) self.old self.new }
     {
         self.registers.put(self.psw.selected(), number, value);
     }
@@ -61,8 +61,7 @@ impl<S: Store, B: Bus> Core<S, B> {
 
     /// Sets the condition code to the low four bits of a number.
     pub fn set_code(&mut self, code: u32)
-        ensures does { Sets S.Store.meaning B.Bus.devices (set_code code) self.old self.new }
-        ensures quiet { self.new.bus ≡ self.old.bus }
+        ensures { SetsQuietly S.Store.meaning B.Bus.devices (set_code code) self.old self.new }
     {
         let status = self.psw.recoded(code);
         self.psw = self.psw.with_status(status);
@@ -77,8 +76,7 @@ impl<S: Store, B: Bus> Core<S, B> {
 
     /// Goes to an address, whose last bit is cleared.
     pub fn jump(&mut self, to: ProgramAddress)
-        ensures does { Sets S.Store.meaning B.Bus.devices (jump to.at) self.old self.new }
-        ensures quiet { self.new.bus ≡ self.old.bus }
+        ensures { SetsQuietly S.Store.meaning B.Bus.devices (jump to.at) self.old self.new }
     {
         self.psw = self.psw.at(to);
     }
@@ -92,7 +90,7 @@ impl<S: Store, B: Bus> Core<S, B> {
 
     /// Begins an instruction: nothing is to be reported yet.
     pub fn begin(&mut self)
-        ensures state { state_of S.Store.meaning B.Bus.devices self.new ≡ with_pending false (state_of S.Store.meaning B.Bus.devices self.old) }
+        ensures state { Becomes S.Store.meaning B.Bus.devices (with_pending false) self.old self.new }
         ensures quiet { self.new.bus ≡ self.old.bus }
     {
         self.pending = false;

@@ -1,6 +1,5 @@
-ghost use Rattle.std.specs.Prelude.{◌≡◌, true, Ok, Err};
-ghost use Rattle.model.specs.Effects.{run, as_number, privileged, get_status, set_status, answers, sense, read_from, write_to, command_to};
-ghost use Rattle.processor.specs.View.{state_of, out, Does, Gives};
+ghost use Rattle.model.specs.Effects.{privileged, get_status, set_status, answers, sense, read_from, write_to, command_to};
+ghost use Rattle.processor.specs.View.{Does, Gives, Tells, DoesQuietly};
 
 use crate::cpu::Core;
 use bus::meaning::Bus;
@@ -20,54 +19,40 @@ impl<S: Store, B: Bus> Core<S, B> {
     pub fn status(&self) -> Result<u32, Trap>
         ensures { Gives S.Store.meaning B.Bus.devices get_status self.now result self.now }
     {
-        if self.psw.protected() {
-            Err(Trap::Illegal)
-        } else {
-            Ok(self.psw.status())
-        }
+        self.privileged()?;
+        Ok(self.psw.status())
     }
 
     /// Loads a status.
     pub fn set_status(&mut self, status: u32) -> Result<(), Trap>
-        ensures does { Does S.Store.meaning B.Bus.devices (set_status status) self.old result self.new }
-        ensures quiet { self.new.bus ≡ self.old.bus }
+        ensures { DoesQuietly S.Store.meaning B.Bus.devices (set_status status) self.old result self.new }
     {
-        if self.psw.protected() {
-            return Err(Trap::Illegal);
-        }
+        self.privileged()?;
         self.psw = self.psw.with_status(status);
         Ok(())
     }
 
     /// Whether a device answers.
     pub fn answers(&self, device: u8) -> Result<bool, Trap>
-        ensures { elim result [ Ok b ↦ run (B.Bus.devices self.now.bus) (answers device) (state_of S.Store.meaning B.Bus.devices self.now) ≡ Rattle.model.specs.Effects.went (as_number b) (state_of S.Store.meaning B.Bus.devices self.now) | Err e ↦ run (B.Bus.devices self.now.bus) (answers device) (state_of S.Store.meaning B.Bus.devices self.now) ≡ Rattle.model.specs.Effects.stopped e (state_of S.Store.meaning B.Bus.devices self.now) ] }
+        ensures { Tells S.Store.meaning B.Bus.devices (answers device) self.now result self.now }
     {
-        if self.psw.protected() {
-            Err(Trap::Illegal)
-        } else {
-            Ok(self.bus.answers(device))
-        }
+        self.privileged()?;
+        Ok(self.bus.answers(device))
     }
 
     /// The status of a device.
     pub fn sense(&self, device: u8) -> Result<u8, Trap>
         ensures { Gives S.Store.meaning B.Bus.devices (sense device) self.now result self.now }
     {
-        if self.psw.protected() {
-            Err(Trap::Illegal)
-        } else {
-            Ok(self.bus.status(device))
-        }
+        self.privileged()?;
+        Ok(self.bus.status(device))
     }
 
     /// Reads a device, if it answers.
     pub fn read_from(&mut self, device: u8) -> Result<u8, Trap>
         ensures { Gives S.Store.meaning B.Bus.devices (read_from device) self.old result self.new }
     {
-        if self.psw.protected() {
-            return Err(Trap::Illegal);
-        }
+        self.privileged()?;
         if !self.bus.answers(device) {
             return Ok(0);
         }
@@ -78,9 +63,7 @@ impl<S: Store, B: Bus> Core<S, B> {
     pub fn write_to(&mut self, device: u8, byte: u8) -> Result<(), Trap>
         ensures { Does S.Store.meaning B.Bus.devices (write_to device byte) self.old result self.new }
     {
-        if self.psw.protected() {
-            return Err(Trap::Illegal);
-        }
+        self.privileged()?;
         if self.bus.answers(device) {
             self.bus.write(device, byte);
         }
@@ -91,9 +74,7 @@ impl<S: Store, B: Bus> Core<S, B> {
     pub fn command_to(&mut self, device: u8, byte: u8) -> Result<(), Trap>
         ensures { Does S.Store.meaning B.Bus.devices (command_to device byte) self.old result self.new }
     {
-        if self.psw.protected() {
-            return Err(Trap::Illegal);
-        }
+        self.privileged()?;
         if self.bus.answers(device) {
             self.bus.command(device, byte);
         }

@@ -2,11 +2,12 @@ ghost use Rattle.std.specs.Prelude.{◌≡◌, ◌^◌, ◌<◌};
 ghost use Rattle.model.specs.Buses.{lowest};
 ghost use Rattle.model.specs.Stores.{half_at, full_at};
 ghost use Rattle.model.specs.Steps.{took, recorded, interrupted, supervised, requested};
-ghost use Rattle.processor.specs.View.{state_of};
+ghost use Rattle.processor.specs.View.{state_of, Leads};
 
 use crate::cpu::Core;
 use bus::meaning::Bus;
 use model::{Cause, Record};
+use registers::file::RegisterSet;
 use registers::words::{ProgramAddress, Psw};
 use store::meaning::Store;
 
@@ -19,6 +20,7 @@ impl<S: Store, B: Bus> Core<S, B> {
     }
 
     /// The fullword of the store at a real address.
+    #[tactic(auto, unfolding(model::specs::Stores::full_at))]
     fn full_at(&self, address: u16) -> u32
         ensures { result ≡ full_at (S.Store.meaning self.now.store) address }
     {
@@ -34,7 +36,7 @@ impl<S: Store, B: Bus> Core<S, B> {
         Record {
             cause,
             status: self.psw.status(),
-            location: own.number(),
+            location: u32::from(own),
             faults: self.controller.faults(),
         }
     }
@@ -42,26 +44,26 @@ impl<S: Store, B: Bus> Core<S, B> {
     /// Saves the status and an address, and loads the PSW at a real address.
     pub fn interrupt(&mut self, cause: Cause, vector: u16, own: ProgramAddress) -> Record
         requires { vector < 2 ^ 15 }
-        ensures does { interrupted cause vector own.at (state_of S.Store.meaning B.Bus.devices self.old) ≡ took result (state_of S.Store.meaning B.Bus.devices self.new) }
-        ensures quiet { self.new.bus ≡ self.old.bus }
+        ensures { Leads S.Store.meaning B.Bus.devices (interrupted cause vector own.at) self.old (took result) self.new }
     {
         let record = self.record(cause, own);
-        self.registers.put(0, 14, self.psw.status());
-        self.registers.put(0, 15, own.number());
+        self.registers
+            .put(RegisterSet::First, 14, self.psw.status());
+        self.registers.put(RegisterSet::First, 15, u32::from(own));
         self.psw = Psw::new(self.full_at(vector), self.full_at(vector + 4));
         record
     }
 
     /// Takes a supervisor call.
     pub fn supervise(&mut self, number: u8, address: u32) -> Record
-        ensures does { supervised number address (state_of S.Store.meaning B.Bus.devices self.old) ≡ took result (state_of S.Store.meaning B.Bus.devices self.new) }
-        ensures quiet { self.new.bus ≡ self.old.bus }
+        ensures { Leads S.Store.meaning B.Bus.devices (supervised number address) self.old (took result) self.new }
     {
         let next = self.psw.location();
         let record = self.record(Cause::SupervisorCall, next);
-        self.registers.put(0, 13, address);
-        self.registers.put(0, 14, self.psw.status());
-        self.registers.put(0, 15, next.number());
+        self.registers.put(RegisterSet::First, 13, address);
+        self.registers
+            .put(RegisterSet::First, 14, self.psw.status());
+        self.registers.put(RegisterSet::First, 15, u32::from(next));
         self.psw = Psw::new(
             self.full_at(0x98),
             self.half_at(0x9c + 2 * number as u16) as u32,
@@ -71,17 +73,17 @@ impl<S: Store, B: Bus> Core<S, B> {
 
     /// Takes the request of a device.
     pub fn attend(&mut self, device: u8) -> Record
-        ensures does { requested device (state_of S.Store.meaning B.Bus.devices self.old) ≡ took result (state_of S.Store.meaning B.Bus.devices self.new) }
-        ensures quiet { self.new.bus ≡ self.old.bus }
+        ensures { Leads S.Store.meaning B.Bus.devices (requested device) self.old (took result) self.new }
     {
         let own = self.psw.location();
         let record = self.record(Cause::DeviceRequest, own);
         let entry = self.half_at(0xd0 + 2 * device as u16);
-        self.registers.put(0, 0, self.psw.status());
-        self.registers.put(0, 1, own.number());
-        self.registers.put(0, 2, device as u32);
-        self.registers.put(0, 3, self.bus.status(device) as u32);
-        self.registers.put(0, 4, entry as u32);
+        self.registers.put(RegisterSet::First, 0, self.psw.status());
+        self.registers.put(RegisterSet::First, 1, u32::from(own));
+        self.registers.put(RegisterSet::First, 2, device as u32);
+        self.registers
+            .put(RegisterSet::First, 3, self.bus.status(device) as u32);
+        self.registers.put(RegisterSet::First, 4, entry as u32);
         self.psw = Psw::new(0x2800, entry as u32);
         record
     }

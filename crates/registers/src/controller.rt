@@ -1,9 +1,9 @@
 ghost use Rattle.std.specs.Prelude.{◌≡◌, Bool, ℕ, ◌+◌, ◌*◌, ◌/◌, ◌%◌, ◌^◌, ◌<◌, length, get_or, set as replaced, replicate};
 ghost use Rattle.std.specs.Int.Bits.{bit_or};
-ghost use Rattle.model.specs.Controller.{limit_of, relocation_of, no_execute_of, write_mode_of, present_of, used, chosen, block, within, present, no_execute, write_mode, real, on_write, verdict, is_controller, is_segment, segment_at, is_faults, clears_faults, half_of, with_half, controller_half, segments_after, faults_after_read};
+ghost use Rattle.model.specs.Controller.{limit_of, relocation_of, no_execute_of, write_mode_of, present_of, used, chosen, block, within, present, no_execute, real, on_write, verdict, faults_noted, is_controller, is_segment, segment_at, is_faults, clears_faults, half_of, with_half, controller_half, segments_after, faults_after_read};
 
 use crate::words::{ProgramAddress, RealAddress};
-use model::{Access, Verdict};
+use model::{Access, Grant, Violation};
 
 /// The access controller: 16 segmentation registers and the interrupt status register.
 #[derive(Clone, Copy)]
@@ -31,12 +31,6 @@ fn no_execute_of(segment: u32) -> bool
     segment / 128 % 2 == 1
 }
 
-fn write_mode_of(segment: u32) -> u32
-    ensures { result ≡ write_mode_of segment }
-{
-    segment / 32 % 4
-}
-
 fn present_of(segment: u32) -> bool
     ensures { result ≡ present_of segment }
 {
@@ -57,15 +51,14 @@ fn block_of(a: ProgramAddress) -> u32
     a.at / 256 % 256
 }
 
-fn on_write(mode: u32) -> Verdict
-    ensures { result ≡ on_write mode }
+/// What the bits W of a segmentation register say of a write.
+fn on_write(segment: u32) -> Result<Grant, Violation>
+    ensures { result ≡ on_write (write_mode_of segment) }
 {
-    if mode % 2 == 1 {
-        Verdict::Refused(4)
-    } else if mode == 2 {
-        Verdict::Reported
-    } else {
-        Verdict::Granted
+    match segment / 32 % 4 {
+        0b00 => Ok(Grant::Plain),
+        0b10 => Ok(Grant::Reported),
+        _ => Err(Violation::WriteProtected),
     }
 }
 
@@ -182,33 +175,34 @@ impl Controller {
         no_execute_of(self.chosen(a))
     }
 
-    fn write_mode(&self, a: ProgramAddress) -> u32
-        ensures { result ≡ write_mode self.now.segments a.at }
-    {
-        write_mode_of(self.chosen(a))
-    }
-
     /// What the first check that fails says of an access, relocation on.
-    pub fn verdict(&self, access: Access, a: ProgramAddress) -> Verdict
+    pub fn verdict(&self, access: Access, a: ProgramAddress) -> Result<Grant, Violation>
         ensures { result ≡ verdict access self.now.segments a.at }
     {
         if !self.within(a) {
-            return Verdict::Refused(16);
+            return Err(Violation::Limit);
         }
         if !self.present(a) {
-            return Verdict::Refused(8);
+            return Err(Violation::Absent);
         }
         match access {
-            Access::Fetch => {
-                if self.no_execute(a) {
-                    Verdict::Refused(1)
-                } else {
-                    Verdict::Granted
-                }
-            }
-            Access::Read => Verdict::Granted,
-            Access::Write => on_write(self.write_mode(a)),
+            Access::Fetch if self.no_execute(a) => Err(Violation::NoExecute),
+            Access::Fetch | Access::Read => Ok(Grant::Plain),
+            Access::Write => on_write(self.chosen(a)),
         }
+    }
+
+    /// The same, and a violation sets its bit of the interrupt status.
+    pub fn judge(&mut self, access: Access, a: ProgramAddress) -> Result<Grant, Violation>
+        ensures verdict { result ≡ verdict access self.old.segments a.at }
+        ensures segments { self.new.segments ≡ self.old.segments }
+        ensures faults { self.new.faults ≡ faults_noted result self.old.faults }
+    {
+        let verdict = self.verdict(access, a);
+        if let Err(violation) = verdict {
+            self.note(u8::from(violation));
+        }
+        verdict
     }
 
     /// The real address that a program address reaches, relocation on.

@@ -1,5 +1,26 @@
 ghost use Rattle.std.specs.Prelude.{◌≡◌, ◌<◌, get_or, replicate, set as replaced};
-ghost use Rattle.model.specs.Status.{slot, register_count};
+ghost use Rattle.model.specs.Status.{file_of, slot, register_count};
+ghost use Rattle.registers.specs.Sets.{set_number};
+
+/// A set of general registers.
+#[derive(Clone, Copy, PartialEq, Eq)]
+pub enum RegisterSet {
+    First,
+    Second,
+}
+
+/// Which set has a number: set 0 is the first, any other the second.
+impl From<u8> for RegisterSet {
+    ghost from_gives = { λ number set. set_number set ≡ file_of number };
+
+    fn from(number: u8) -> RegisterSet {
+        if number == 0 {
+            RegisterSet::First
+        } else {
+            RegisterSet::Second
+        }
+    }
+}
 
 /// The general registers: the sets, one behind the other.
 #[derive(Clone, Copy)]
@@ -7,12 +28,15 @@ pub struct Registers {
     words: [u32; 32],
 }
 
-fn slot_of(set: u8, number: u8) -> usize
-    requires { set < 2 }
-    ensures value { result ≡ slot set number }
+fn slot_of(set: RegisterSet, number: u8) -> usize
+    ensures value { result ≡ slot (set_number set) number }
     ensures small { result < register_count }
 {
-    set as usize * 16 + (number % 16) as usize
+    let start = match set {
+        RegisterSet::First => 0,
+        RegisterSet::Second => 16,
+    };
+    start + (number % 16) as usize
 }
 
 impl Registers {
@@ -24,17 +48,15 @@ impl Registers {
     }
 
     /// A register of a set of the file; register numbers wrap at 16.
-    pub fn get(&self, set: u8, number: u8) -> u32
-        requires { set < 2 }
-        ensures { result ≡ get_or self.now.words (slot set number) 0 }
+    pub fn get(&self, set: RegisterSet, number: u8) -> u32
+        ensures { result ≡ get_or self.now.words (slot (set_number set) number) 0 }
     {
         self.words[slot_of(set, number)]
     }
 
     /// Gives a register of a set of the file another number.
-    pub fn put(&mut self, set: u8, number: u8, value: u32)
-        requires { set < 2 }
-        ensures { self.new.words ≡ replaced self.old.words (slot set number) value }
+    pub fn put(&mut self, set: RegisterSet, number: u8, value: u32)
+        ensures { self.new.words ≡ replaced self.old.words (slot (set_number set) number) value }
     {
         self.words[slot_of(set, number)] = value;
     }

@@ -1,7 +1,9 @@
 ghost use Rattle.std.specs.Prelude.{◌≡◌, ◌+◌, ◌-◌, ◌/◌, ◌%◌, ◌^◌, ◌<◌};
 ghost use Rattle.model.specs.Status.{waits, polls, arithmetic_on, relocated, protected, code_of, recoded, selected, counter, address, to_half, to_full, to_psw};
 ghost use Rattle.registers.specs.Parity.{is_odd};
+ghost use Rattle.registers.specs.Sets.{set_number};
 
+use crate::file::RegisterSet;
 use crate::words::{ProgramAddress, Psw, RealAddress};
 
 impl Psw {
@@ -102,11 +104,14 @@ impl Psw {
     }
 
     /// Which set of the register file is selected.
-    pub fn selected(self) -> u8
-        ensures value { result ≡ selected self.status }
-        ensures small { result < 2 }
+    pub fn selected(self) -> RegisterSet
+        ensures { set_number result ≡ selected self.status }
     {
-        if self.status / 16 % 16 == 0 { 0 } else { 1 }
+        if self.status / 16 % 16 == 0 {
+            RegisterSet::First
+        } else {
+            RegisterSet::Second
+        }
     }
 }
 
@@ -190,8 +195,8 @@ impl ProgramAddress {
 impl From<ProgramAddress> for u32 {
     ghost from_gives = { λ a n. (n ≡ a.at) × (n < 2 ^ 20) };
 
-    fn from(a: ProgramAddress) -> u32 {
-        a.at
+    fn from(address: ProgramAddress) -> u32 {
+        address.at
     }
 }
 
