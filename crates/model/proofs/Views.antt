@@ -1,6 +1,7 @@
 -- What a protected program sees, by its own addresses: each reaches equal places in both machines, wherever these stand.
-use Rattle.std.proofs.Common.{◌≡◌, ℕ, zero, suc, ◌/◌, ◌%◌, ◌^◌, ◌<◌, Bool, true, false, cond, Ok, Err, T, eqb, ◌↔◌, List, [], ◌∷◌, length, get_or, set, sym, refl, ap, ◌∙◌, subst, arith, eqb→eq}
-use lib.Dec.{eqb_refl}
+use Rattle.std.proofs.Common.{◌≡◌, ℕ, ◌/◌, ◌%◌, ◌^◌, ◌<◌, Bool, true, false, cond, Ok, Err, eqb, ◌↔◌, List, length, get_or, set, sym, refl, ap, ◌∙◌, arith}
+use Rattle.std.proofs.lemmas.Bool.Decides.{nat_tests}
+use Rattle.std.proofs.lemmas.Grind.{common_steps}
 use Rattle.model.specs.declared.Access.{Access}
 use Rattle.model.specs.declared.Access.TheVariants.{Fetch, Read, Write}
 use Rattle.model.specs.declared.Grant.TheVariants.{Plain, Reported}
@@ -141,17 +142,7 @@ view_trans g h i m n o v w = record {
 
 -- Two tests of equality that answer alike.
 eqb_iff : (a b c d : ℕ) → (a ≡ b) ↔ (c ≡ d) → eqb a b ≡ eqb c d
-eqb_iff a b c d h = go (eqb a b) (eqb c d) refl refl
-  where
-    go : (x y : Bool) → eqb a b ≡ x → eqb c d ≡ y → x ≡ y
-    go true true p q = refl
-    go true false p q =
-        let e : c ≡ d = h.0 (eqb→eq a b (subst T (sym p) tt)) in
-        absurd (subst T q (subst (λ (z : ℕ). T (eqb c z)) e (eqb_refl c)))
-    go false true p q =
-        let e : a ≡ b = h.1 (eqb→eq c d (subst T (sym q) tt)) in
-        absurd (subst T p (subst (λ (z : ℕ). T (eqb a z)) e (eqb_refl a)))
-    go false false p q = refl
+eqb_iff a b c d h = grind (arith, nat_tests)
 
 -- One write by way of the same address.
 pub view_revised :
@@ -170,21 +161,11 @@ view_revised g h m n a f w v = record {
 -- ── Stores and registers ──
 -- A write leaves the other places; a register write, in two files alike at j, leaves them alike there.
 pub stored_other : (m : Store) (p q v : ℕ) → (q ≡ p → ⊥) → at (stored m p v) q ≡ at m q
-stored_other m p q v h = go (eqb q p) refl
-  where
-    go : (b : Bool) → eqb q p ≡ b → at (stored m p v) q ≡ at m q
-    go true e = absurd (h (eqb→eq q p (subst T (sym e) tt)))
-    go false e = rw e
+stored_other m p q v h = grind (arith, nat_tests)
 
 pub set_agrees :
     (xs ys : List ℕ) (i j v : ℕ) → length xs ≡ length ys → get_or xs j 0 ≡ get_or ys j 0 → get_or (set xs i v) j 0 ≡ get_or (set ys i v) j 0
-set_agrees [] [] i j v n e = refl
-set_agrees [] (y ∷ ys) i j v n e = absurd (omega arith)
-set_agrees (x ∷ xs) [] i j v n e = absurd (omega arith)
-set_agrees (x ∷ xs) (y ∷ ys) zero zero v n e = refl
-set_agrees (x ∷ xs) (y ∷ ys) zero (suc j) v n e = e
-set_agrees (x ∷ xs) (y ∷ ys) (suc i) zero v n e = e
-set_agrees (x ∷ xs) (y ∷ ys) (suc i) (suc j) v n e = set_agrees xs ys i j v (omega arith) e
+set_agrees xs ys i j v n e = grind (arith, common_steps)
 
 -- A slot belongs to one set.
 pub slot_set : (j k m n : ℕ) → slot j m ≡ slot k n → j ≡ k

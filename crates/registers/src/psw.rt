@@ -68,6 +68,7 @@ impl Psw {
         self.status / 16 * 16 + code % 16
     }
 
+    // Five tests of one form: one function of the bit would have each caller give a number or a name for it besides.
     /// Bit 16: the processor waits.
     pub fn waits(self) -> bool
         ensures { result ≡ waits self.status }
@@ -147,6 +148,7 @@ impl ProgramAddress {
         self.at % 2 == 1
     }
 
+    // Three sizes of one form: with the size as a parameter each caller would write 2, 4 or 8 for the unit that it means.
     /// The address of the halfword that holds it.
     pub fn to_half(self) -> ProgramAddress
         ensures { result.at ≡ to_half self.at }
