@@ -1,5 +1,7 @@
 -- The two machines of the example are there, and meet every premise.
-use Rattle.std.proofs.Common.{◌≡◌, ℕ, zero, suc, ◌+◌, ◌*◌, ◌/◌, ◌%◌, ◌^◌, ◌<◌, Bool, true, false, T, eqb, leb, List, [], ◌∷◌, get_or, set, replicate, sym, refl, ap, ◌∙◌, subst, arith, eqb→eq, leb→le, get_or-set_other}
+use Rattle.std.proofs.Common.{◌≡◌, ℕ, zero, suc, ◌+◌, ◌*◌, ◌/◌, ◌%◌, ◌^◌, ◌<◌, true, false, T, eqb, leb, List, [], ◌∷◌, get_or, set, replicate, sym, refl, ap, ◌∙◌, subst, arith, leb→le, get_or-set_other}
+use Rattle.std.proofs.lemmas.Bool.Decides.{nat_tests}
+use Rattle.std.proofs.lemmas.Grind.{common_steps}
 use mathlib.Core.Bool.{false≢true}
 use Rattle.model.specs.declared.StepAnswer.TheVariants.{Waiting}
 use Rattle.model.specs.declared.Reason.TheVariants.{Waited}
@@ -22,9 +24,7 @@ segments = set (replicate 16 0) 0 0x10
 
 -- An element of zeros is zero.
 zeros : (n i : ℕ) → ◌≡◌ {A = ℕ} (get_or (replicate n 0) i 0) 0
-zeros zero i = refl
-zeros (suc n) zero = refl
-zeros (suc n) (suc i) = zeros n i
+zeros n i = grind (arith, common_steps)
 
 first_present : (i : ℕ) → present_of (get_or segments i 0) ≡ true → i ≡ 0
 unfolding present_of
@@ -46,11 +46,7 @@ window_low p i =
     omega arith
 
 board_low : (x y p : ℕ) → p < 128 → at (board x) p ≡ at (board y) p
-board_low x y p h = go (eqb p 200) refl
-  where
-    go : (b : Bool) → eqb p 200 ≡ b → at (board x) p ≡ at (board y) p
-    go true e = let f = eqb→eq p 200 (subst T (sym e) tt) in absurd (omega arith)
-    go false e = rw e
+board_low x y p h = grind (arith, nat_tests)
 
 -- ── Histories ──
 -- A run of a new machine waits at once.
