@@ -1,5 +1,5 @@
 ghost use Rattle.std.specs.Prelude.{◌≡◌, ◌+◌, ◌-◌, ◌/◌, ◌%◌, ◌^◌, ◌<◌};
-ghost use Rattle.model.specs.Status.{waits, polls, arithmetic_on, relocated, protected, code_of, recoded, selected, counter, address, to_half, to_full, to_psw};
+ghost use Rattle.model.specs.Status.{bit, waits, polls, arithmetic_on, relocated, protected, code_of, recoded, selected, counter, address, to_half, to_full, to_psw};
 ghost use Rattle.registers.specs.Parity.{is_odd};
 ghost use Rattle.registers.specs.Sets.{set_number};
 
@@ -68,40 +68,47 @@ impl Psw {
         self.status / 16 * 16 + code % 16
     }
 
-    // Five tests of one form: one function of the bit would have each caller give a number or a name for it besides.
+    /// A bit, numbered from the left.
+    fn bit(self, number: u32) -> bool
+        requires { number < 32 }
+        ensures { result ≡ bit number self.status }
+    {
+        (self.status >> (31 - number)) % 2 == 1
+    }
+
     /// Bit 16: the processor waits.
     pub fn waits(self) -> bool
         ensures { result ≡ waits self.status }
     {
-        self.status / 0x8000 % 2 == 1
+        self.bit(16)
     }
 
     /// Bit 17: device requests are taken.
     pub fn polls(self) -> bool
         ensures { result ≡ polls self.status }
     {
-        self.status / 0x4000 % 2 == 1
+        self.bit(17)
     }
 
     /// Bit 19: arithmetic faults interrupt.
     pub fn arithmetic_on(self) -> bool
         ensures { result ≡ arithmetic_on self.status }
     {
-        self.status / 0x1000 % 2 == 1
+        self.bit(19)
     }
 
     /// Bit 21: addresses go through the segmentation registers.
     pub fn relocated(self) -> bool
         ensures { result ≡ relocated self.status }
     {
-        self.status / 0x400 % 2 == 1
+        self.bit(21)
     }
 
     /// Bit 23: privileged codes are illegal.
     pub fn protected(self) -> bool
         ensures { result ≡ protected self.status }
     {
-        self.status / 0x100 % 2 == 1
+        self.bit(23)
     }
 
     /// Which set of the register file is selected.
@@ -149,31 +156,35 @@ impl ProgramAddress {
     }
 
     // Three sizes of one form: with the size as a parameter each caller would write 2, 4 or 8 for the unit that it means.
+    /// The multiple of a size at it or below.
+    fn down_to(self, size: u32) -> ProgramAddress
+        requires { 0 < size }
+        ensures { result.at + self.at % size ≡ self.at }
+    {
+        ProgramAddress {
+            at: self.at - self.at % size,
+        }
+    }
+
     /// The address of the halfword that holds it.
     pub fn to_half(self) -> ProgramAddress
         ensures { result.at ≡ to_half self.at }
     {
-        ProgramAddress {
-            at: self.at / 2 * 2,
-        }
+        self.down_to(2)
     }
 
     /// The address of the fullword that holds it.
     pub fn to_full(self) -> ProgramAddress
         ensures { result.at ≡ to_full self.at }
     {
-        ProgramAddress {
-            at: self.at / 4 * 4,
-        }
+        self.down_to(4)
     }
 
     /// The address of the PSW that holds it.
     pub fn to_psw(self) -> ProgramAddress
         ensures { result.at ≡ to_psw self.at }
     {
-        ProgramAddress {
-            at: self.at / 8 * 8,
-        }
+        self.down_to(8)
     }
 
     /// The address a few bytes back, in 20 bits.
