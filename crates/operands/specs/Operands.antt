@@ -63,6 +63,10 @@ apply_tree Add r y = seq (reg r) (λ x. then (set_reg r (sum x y)) (set_code (su
 apply_tree Subtract r y = seq (reg r) (λ x. then (set_reg r (difference x y)) (set_code (difference_code x y)))
 apply_tree Test r y = seq (reg r) (λ x. set_code (marks (bit_and x y)))
 
+-- .. and on to the next instruction.
+abbrev pub applied_tree : Function → ℕ → ℕ → ℕ → Prog
+applied_tree f r y next = then (apply_tree f r y) (jump next)
+
 -- ── Branches: to the target if a bit of the mask is in the condition code, or if none is ──
 abbrev pub branch_true : ℕ → ℕ → ℕ → Prog
 branch_true mask target next = seq get_code (λ c. cond (bit_and c mask == 0) (jump next) (jump target))

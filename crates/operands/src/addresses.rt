@@ -47,6 +47,7 @@ pub fn next(own: ProgramAddress, second: u16) -> ProgramAddress
 }
 
 /// The address that an instruction gives.
+#[tactic(auto, using(processor::proofs::Addresses::address_same), unfolding(crate::specs::Operands::address_tree))]
 pub fn address<S: Store, B: Bus>(
     m: &Core<S, B>,
     own: ProgramAddress,
@@ -73,6 +74,7 @@ pub fn address<S: Store, B: Bus>(
 }
 
 /// The register so many after another; after 15 comes 0.
+#[tactic(auto, unfolding(crate::specs::Operands::following))]
 pub fn following(number: u8, by: u8) -> u8
     ensures { result ≡ following number by }
 {
@@ -80,6 +82,7 @@ pub fn following(number: u8, by: u8) -> u8
 }
 
 /// Loads a byte: one read, of its halfword.
+#[tactic(auto, unfolding(crate::specs::Operands::load_byte))]
 pub fn load_byte<S: Store, B: Bus>(m: &mut Core<S, B>, a: ProgramAddress) -> Result<u8, Trap>
     ensures does { GivesCalmly S.Store.meaning B.Bus.devices (load_byte a.at) m.old result m.new }
     ensures quiet { m.new.bus ≡ m.old.bus }
@@ -89,6 +92,7 @@ pub fn load_byte<S: Store, B: Bus>(m: &mut Core<S, B>, a: ProgramAddress) -> Res
 }
 
 /// Loads a fullword, the high half first.
+#[tactic(auto, unfolding(crate::specs::Operands::load_full))]
 pub fn load_full<S: Store, B: Bus>(m: &mut Core<S, B>, a: ProgramAddress) -> Result<u32, Trap>
     ensures does { GivesCalmly S.Store.meaning B.Bus.devices (load_full a.at) m.old result m.new }
     ensures quiet { m.new.bus ≡ m.old.bus }
@@ -99,6 +103,7 @@ pub fn load_full<S: Store, B: Bus>(m: &mut Core<S, B>, a: ProgramAddress) -> Res
 }
 
 /// Stores a fullword, the high half first.
+#[tactic(auto, unfolding(crate::specs::Operands::store_full))]
 pub fn store_full<S: Store, B: Bus>(
     m: &mut Core<S, B>,
     a: ProgramAddress,

@@ -34,9 +34,5 @@ pub fn branch_false<S: Store, B: Bus>(
     ensures does { Sets S.Store.meaning B.Bus.devices (branch_false mask target.at next.at) m.old m.new }
     ensures quiet { m.new.bus ≡ m.old.bus }
 {
-    if m.code() & mask as u32 == 0 {
-        m.jump(target)
-    } else {
-        m.jump(next)
-    }
+    branch_true(m, mask, next, target)
 }

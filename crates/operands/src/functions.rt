@@ -1,10 +1,11 @@
 ghost use Rattle.std.specs.Prelude.{◌≡◌};
 ghost use Rattle.processor.specs.View.{Sets};
-ghost use Rattle.operands.specs.Operands.{result_tree, apply_tree};
+ghost use Rattle.operands.specs.Operands.{result_tree, apply_tree, applied_tree};
 
 use bus::meaning::Bus;
 use decode::operations::Function;
 use processor::cpu::Core;
+use registers::words::ProgramAddress;
 use store::meaning::Store;
 use words::codes::marks;
 use words::sums::{compare_code, compare_logical_code, difference, difference_code, sum, sum_code};
@@ -41,4 +42,19 @@ pub fn apply<S: Store, B: Bus>(m: &mut Core<S, B>, function: Function, r1: u8, y
         }
         Function::Test => m.set_code(marks(x & y).bits()),
     }
+}
+
+/// Applies a function, and goes on.
+pub fn applied<S: Store, B: Bus>(
+    m: &mut Core<S, B>,
+    function: Function,
+    r1: u8,
+    y: u32,
+    next: ProgramAddress,
+)
+    ensures does { Sets S.Store.meaning B.Bus.devices (applied_tree function r1 y next.at) m.old m.new }
+    ensures quiet { m.new.bus ≡ m.old.bus }
+{
+    apply(m, function, r1, y);
+    m.jump(next);
 }

@@ -3,5 +3,6 @@
 
 pub mod addresses;
 pub mod branches;
+pub mod forms;
 pub mod functions;
 pub mod laws;
