@@ -7,6 +7,8 @@ use Rattle.processor.specs.Writes.{put, put_byte}
 use Rattle.words.specs.Sums.{sum, sum_code, compare_logical_code, extended}
 use Rattle.fields.specs.Parts.{low_half, with_low_half, halves_exchanged, low_byte, with_low_byte, bytes_exchanged}
 use Rattle.fields.specs.Bits.{bit_offset, bit_of, with_bit, without_bit, with_bit_flipped}
+use Rattle.transfers.specs.declared.bits.BitChange.{BitChange}
+use Rattle.transfers.specs.declared.bits.BitChange.TheVariants.{Set, Clear, Complement}
 use Rattle.operands.specs.Operands.{then, following, load_byte, load_full, store_full, result_tree}
 
 -- ── Between registers ──
@@ -72,6 +74,15 @@ bit_place a n = to_half (address (a + bit_offset n))
 
 abbrev pub tbt_tree : ℕ → ℕ → ℕ → Prog
 tbt_tree r1 a next = seq (reg r1) (λ n. seq (load (bit_place a n)) (λ h. then (set_code (2 * bit_of n h)) (jump next)))
+
+-- Set, cleared or complemented: change_bit_tree Set is sbt_tree, and so on.
+abbrev pub changed : BitChange → ℕ → ℕ → ℕ
+changed Set n h = with_bit n h
+changed Clear n h = without_bit n h
+changed Complement n h = with_bit_flipped n h
+
+abbrev pub change_bit_tree : BitChange → ℕ → ℕ → ℕ → Prog
+change_bit_tree c r1 a next = seq (reg r1) (λ n. seq (load (bit_place a n)) (λ h. written_tree (bit_place a n) (changed c n h) (2 * bit_of n h) next))
 
 abbrev pub sbt_tree : ℕ → ℕ → ℕ → Prog
 sbt_tree r1 a next = seq (reg r1) (λ n. seq (load (bit_place a n)) (λ h. written_tree (bit_place a n) (with_bit n h) (2 * bit_of n h) next))

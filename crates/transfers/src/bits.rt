@@ -1,16 +1,37 @@
 ghost use Rattle.std.specs.Prelude.{◌≡◌};
 ghost use Rattle.processor.specs.View.{Does};
-ghost use Rattle.transfers.specs.Transfers.{bit_place, tbt_tree, sbt_tree, rbt_tree, cbt_tree};
+ghost use Rattle.transfers.specs.Transfers.{bit_place, changed, tbt_tree, change_bit_tree};
 
 use crate::updates::written;
 use bus::meaning::Bus;
 use fields::bits::{bit_of, bit_offset, with_bit, with_bit_flipped, without_bit};
 use model::Trap;
+use operands::forms::Addressed;
 use processor::cpu::Core;
 use registers::words::ProgramAddress;
 use store::meaning::Store;
 
+/// What an instruction makes of a bit.
+#[derive(Clone, Copy, PartialEq, Eq)]
+pub enum BitChange {
+    Set,
+    Clear,
+    Complement,
+}
+
+/// A halfword with a bit changed.
+fn changed(change: BitChange, n: u32, half: u16) -> u16
+    ensures { result ≡ changed change n half }
+{
+    match change {
+        BitChange::Set => with_bit(n, half),
+        BitChange::Clear => without_bit(n, half),
+        BitChange::Complement => with_bit_flipped(n, half),
+    }
+}
+
 /// The address of the halfword with a bit of a row of bits.
+#[tactic(auto, unfolding(fields::specs::Bits::bit_offset, crate::specs::Transfers::bit_place))]
 fn bit_place(a: ProgramAddress, n: u32) -> ProgramAddress
     ensures { result.at ≡ bit_place a.at n }
 {
@@ -18,68 +39,27 @@ fn bit_place(a: ProgramAddress, n: u32) -> ProgramAddress
 }
 
 /// Tests a bit.
-pub fn tbt<S: Store, B: Bus>(
-    m: &mut Core<S, B>,
-    r1: u8,
-    a: ProgramAddress,
-    next: ProgramAddress,
-) -> Result<(), Trap>
-    ensures { Does S.Store.meaning B.Bus.devices (tbt_tree r1 a.at next.at) m.old result m.new }
+pub fn tbt<S: Store, B: Bus>(m: &mut Core<S, B>, o: Addressed) -> Result<(), Trap>
+    ensures { Does S.Store.meaning B.Bus.devices (tbt_tree o.r1 o.a.at o.next.at) m.old result m.new }
 {
-    let n = m.reg(r1);
-    let half = m.load(bit_place(a, n))?;
+    let n = m.reg(o.r1);
+    let half = m.load(bit_place(o.a, n))?;
     m.set_code(2 * bit_of(n, half));
-    m.jump(next);
+    m.jump(o.next);
     Ok(())
 }
 
-/// Sets a bit, and says what it was.
-pub fn sbt<S: Store, B: Bus>(
+/// Changes a bit, and says what it was.
+pub fn change_bit<S: Store, B: Bus>(
     m: &mut Core<S, B>,
-    r1: u8,
-    a: ProgramAddress,
-    next: ProgramAddress,
+    change: BitChange,
+    o: Addressed,
 ) -> Result<(), Trap>
-    ensures { Does S.Store.meaning B.Bus.devices (sbt_tree r1 a.at next.at) m.old result m.new }
+    ensures { Does S.Store.meaning B.Bus.devices (change_bit_tree change o.r1 o.a.at o.next.at) m.old result m.new }
 {
-    let n = m.reg(r1);
-    let place = bit_place(a, n);
+    let n = m.reg(o.r1);
+    let place = bit_place(o.a, n);
     let half = m.load(place)?;
-    written(m, place, with_bit(n, half), 2 * bit_of(n, half), next)
-}
-
-/// Clears a bit, and says what it was.
-pub fn rbt<S: Store, B: Bus>(
-    m: &mut Core<S, B>,
-    r1: u8,
-    a: ProgramAddress,
-    next: ProgramAddress,
-) -> Result<(), Trap>
-    ensures { Does S.Store.meaning B.Bus.devices (rbt_tree r1 a.at next.at) m.old result m.new }
-{
-    let n = m.reg(r1);
-    let place = bit_place(a, n);
-    let half = m.load(place)?;
-    written(m, place, without_bit(n, half), 2 * bit_of(n, half), next)
-}
-
-/// Complements a bit, and says what it was.
-pub fn cbt<S: Store, B: Bus>(
-    m: &mut Core<S, B>,
-    r1: u8,
-    a: ProgramAddress,
-    next: ProgramAddress,
-) -> Result<(), Trap>
-    ensures { Does S.Store.meaning B.Bus.devices (cbt_tree r1 a.at next.at) m.old result m.new }
-{
-    let n = m.reg(r1);
-    let place = bit_place(a, n);
-    let half = m.load(place)?;
-    written(
-        m,
-        place,
-        with_bit_flipped(n, half),
-        2 * bit_of(n, half),
-        next,
-    )
+    let new = changed(change, n, half);
+    written(m, place, new, 2 * bit_of(n, half), o.next)
 }

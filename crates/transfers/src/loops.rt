@@ -5,8 +5,8 @@ ghost use Rattle.transfers.specs.Transfers.{raise_tree, bxh_tree, bxle_tree};
 
 use bus::meaning::Bus;
 use operands::addresses::following;
+use operands::forms::Addressed;
 use processor::cpu::Core;
-use registers::words::ProgramAddress;
 use store::meaning::Store;
 use words::sums::sum;
 
@@ -24,25 +24,28 @@ fn raised<S: Store, B: Bus>(m: &mut Core<S, B>, r1: u8) -> bool
 }
 
 /// Goes to the target if the raised index is above its limit, else on.
-pub fn bxh<S: Store, B: Bus>(m: &mut Core<S, B>, r1: u8, a: ProgramAddress, next: ProgramAddress)
-    ensures does { Sets S.Store.meaning B.Bus.devices (bxh_tree r1 a.at next.at) m.old m.new }
+pub fn bxh<S: Store, B: Bus>(m: &mut Core<S, B>, o: Addressed)
+    ensures does { Sets S.Store.meaning B.Bus.devices (bxh_tree o.r1 o.a.at o.next.at) m.old m.new }
     ensures quiet { m.new.bus ≡ m.old.bus }
 {
-    if raised(m, r1) {
-        m.jump(a)
+    if raised(m, o.r1) {
+        m.jump(o.a)
     } else {
-        m.jump(next)
+        m.jump(o.next)
     }
 }
 
 /// Goes to the target if the raised index is not above its limit, else on.
-pub fn bxle<S: Store, B: Bus>(m: &mut Core<S, B>, r1: u8, a: ProgramAddress, next: ProgramAddress)
-    ensures does { Sets S.Store.meaning B.Bus.devices (bxle_tree r1 a.at next.at) m.old m.new }
+pub fn bxle<S: Store, B: Bus>(m: &mut Core<S, B>, o: Addressed)
+    ensures does { Sets S.Store.meaning B.Bus.devices (bxle_tree o.r1 o.a.at o.next.at) m.old m.new }
     ensures quiet { m.new.bus ≡ m.old.bus }
 {
-    if raised(m, r1) {
-        m.jump(next)
-    } else {
-        m.jump(a)
-    }
+    bxh(
+        m,
+        Addressed {
+            r1: o.r1,
+            a: o.next,
+            next: o.a,
+        },
+    )
 }

@@ -5,99 +5,69 @@ use bus::meaning::Bus;
 use fields::parts::{low_byte, low_half};
 use model::Trap;
 use operands::addresses::{load_byte, store_full};
+use operands::forms::Addressed;
 use operands::functions::result;
 use processor::cpu::Core;
-use registers::words::ProgramAddress;
 use store::meaning::Store;
 use words::sums::compare_logical_code;
 
 /// Stores the low half of a register.
-pub fn sth<S: Store, B: Bus>(
-    m: &mut Core<S, B>,
-    r1: u8,
-    a: ProgramAddress,
-    next: ProgramAddress,
-) -> Result<(), Trap>
-    ensures { Does S.Store.meaning B.Bus.devices (sth_tree r1 a.at next.at) m.old result m.new }
+pub fn sth<S: Store, B: Bus>(m: &mut Core<S, B>, o: Addressed) -> Result<(), Trap>
+    ensures { Does S.Store.meaning B.Bus.devices (sth_tree o.r1 o.a.at o.next.at) m.old result m.new }
 {
-    let value = m.reg(r1);
-    m.store(a.to_half(), low_half(value))?;
-    m.jump(next);
+    let value = m.reg(o.r1);
+    m.store(o.a.to_half(), low_half(value))?;
+    m.jump(o.next);
     Ok(())
 }
 
 /// Stores a register.
-pub fn st<S: Store, B: Bus>(
-    m: &mut Core<S, B>,
-    r1: u8,
-    a: ProgramAddress,
-    next: ProgramAddress,
-) -> Result<(), Trap>
-    ensures { Does S.Store.meaning B.Bus.devices (st_tree r1 a.at next.at) m.old result m.new }
+pub fn st<S: Store, B: Bus>(m: &mut Core<S, B>, o: Addressed) -> Result<(), Trap>
+    ensures { Does S.Store.meaning B.Bus.devices (st_tree o.r1 o.a.at o.next.at) m.old result m.new }
 {
-    let value = m.reg(r1);
-    store_full(m, a.to_full(), value)?;
-    m.jump(next);
+    let value = m.reg(o.r1);
+    store_full(m, o.a.to_full(), value)?;
+    m.jump(o.next);
     Ok(())
 }
 
 /// Loads a halfword as a number from 0 on.
-pub fn lhl<S: Store, B: Bus>(
-    m: &mut Core<S, B>,
-    r1: u8,
-    a: ProgramAddress,
-    next: ProgramAddress,
-) -> Result<(), Trap>
-    ensures { Does S.Store.meaning B.Bus.devices (lhl_tree r1 a.at next.at) m.old result m.new }
+pub fn lhl<S: Store, B: Bus>(m: &mut Core<S, B>, o: Addressed) -> Result<(), Trap>
+    ensures { Does S.Store.meaning B.Bus.devices (lhl_tree o.r1 o.a.at o.next.at) m.old result m.new }
 {
-    let half = m.load(a.to_half())?;
-    result(m, r1, half as u32);
-    m.jump(next);
+    let half = m.load(o.a.to_half())?;
+    result(m, o.r1, half as u32);
+    m.jump(o.next);
     Ok(())
 }
 
 /// Loads a byte.
-pub fn lb<S: Store, B: Bus>(
-    m: &mut Core<S, B>,
-    r1: u8,
-    a: ProgramAddress,
-    next: ProgramAddress,
-) -> Result<(), Trap>
-    ensures { Does S.Store.meaning B.Bus.devices (lb_tree r1 a.at next.at) m.old result m.new }
+pub fn lb<S: Store, B: Bus>(m: &mut Core<S, B>, o: Addressed) -> Result<(), Trap>
+    ensures { Does S.Store.meaning B.Bus.devices (lb_tree o.r1 o.a.at o.next.at) m.old result m.new }
 {
-    let byte = load_byte(m, a)?;
-    m.set_reg(r1, byte as u32);
-    m.jump(next);
+    let byte = load_byte(m, o.a)?;
+    m.set_reg(o.r1, byte as u32);
+    m.jump(o.next);
     Ok(())
 }
 
 /// Stores the low byte of a register.
-pub fn stb<S: Store, B: Bus>(
-    m: &mut Core<S, B>,
-    r1: u8,
-    a: ProgramAddress,
-    next: ProgramAddress,
-) -> Result<(), Trap>
-    ensures { Does S.Store.meaning B.Bus.devices (stb_tree r1 a.at next.at) m.old result m.new }
+pub fn stb<S: Store, B: Bus>(m: &mut Core<S, B>, o: Addressed) -> Result<(), Trap>
+    ensures { Does S.Store.meaning B.Bus.devices (stb_tree o.r1 o.a.at o.next.at) m.old result m.new }
 {
-    let value = m.reg(r1);
-    m.store_byte(a, low_byte(value))?;
-    m.jump(next);
+    let value = m.reg(o.r1);
+    m.store_byte(o.a, low_byte(value))?;
+    m.jump(o.next);
     Ok(())
 }
 
 /// Compares the low byte of a register with a byte of the store.
-pub fn clb<S: Store, B: Bus>(
-    m: &mut Core<S, B>,
-    r1: u8,
-    a: ProgramAddress,
-    next: ProgramAddress,
-) -> Result<(), Trap>
-    ensures { Does S.Store.meaning B.Bus.devices (clb_tree r1 a.at next.at) m.old result m.new }
+pub fn clb<S: Store, B: Bus>(m: &mut Core<S, B>, o: Addressed) -> Result<(), Trap>
+    ensures { Does S.Store.meaning B.Bus.devices (clb_tree o.r1 o.a.at o.next.at) m.old result m.new }
 {
-    let value = m.reg(r1);
-    let byte = load_byte(m, a)?;
+    let value = m.reg(o.r1);
+    let byte = load_byte(m, o.a)?;
     m.set_code(compare_logical_code(low_byte(value) as u32, byte as u32).bits());
-    m.jump(next);
+    m.jump(o.next);
     Ok(())
 }

@@ -6,6 +6,7 @@ use fields::bits::{bit_of, with_bit};
 use fields::parts::low_half;
 use model::Trap;
 use operands::addresses::{load_full, store_full};
+use operands::forms::Addressed;
 use processor::cpu::Core;
 use registers::words::ProgramAddress;
 use store::meaning::Store;
@@ -28,51 +29,37 @@ pub(crate) fn written<S: Store, B: Bus>(
 }
 
 /// Adds a register to a fullword of the store.
-pub fn am<S: Store, B: Bus>(
-    m: &mut Core<S, B>,
-    r1: u8,
-    a: ProgramAddress,
-    next: ProgramAddress,
-) -> Result<(), Trap>
-    ensures { Does S.Store.meaning B.Bus.devices (am_tree r1 a.at next.at) m.old result m.new }
+pub fn am<S: Store, B: Bus>(m: &mut Core<S, B>, o: Addressed) -> Result<(), Trap>
+    ensures { Does S.Store.meaning B.Bus.devices (am_tree o.r1 o.a.at o.next.at) m.old result m.new }
 {
-    let x = m.reg(r1);
-    let y = load_full(m, a.to_full())?;
-    store_full(m, a.to_full(), sum(y, x))?;
+    let x = m.reg(o.r1);
+    let y = load_full(m, o.a.to_full())?;
+    store_full(m, o.a.to_full(), sum(y, x))?;
     m.set_code(sum_code(y, x).bits());
-    m.jump(next);
+    m.jump(o.next);
     Ok(())
 }
 
 /// Adds a register to a halfword of the store.
-pub fn ahm<S: Store, B: Bus>(
-    m: &mut Core<S, B>,
-    r1: u8,
-    a: ProgramAddress,
-    next: ProgramAddress,
-) -> Result<(), Trap>
-    ensures { Does S.Store.meaning B.Bus.devices (ahm_tree r1 a.at next.at) m.old result m.new }
+pub fn ahm<S: Store, B: Bus>(m: &mut Core<S, B>, o: Addressed) -> Result<(), Trap>
+    ensures { Does S.Store.meaning B.Bus.devices (ahm_tree o.r1 o.a.at o.next.at) m.old result m.new }
 {
-    let x = m.reg(r1);
-    let half = m.load(a.to_half())?;
+    let x = m.reg(o.r1);
+    let half = m.load(o.a.to_half())?;
     let y = extended(half);
     written(
         m,
-        a.to_half(),
+        o.a.to_half(),
         low_half(sum(y, x)),
         sum_code(y, x).bits(),
-        next,
+        o.next,
     )
 }
 
 /// Sets the first bit of a halfword, and says what it was.
-pub fn ts<S: Store, B: Bus>(
-    m: &mut Core<S, B>,
-    a: ProgramAddress,
-    next: ProgramAddress,
-) -> Result<(), Trap>
-    ensures { Does S.Store.meaning B.Bus.devices (ts_tree a.at next.at) m.old result m.new }
+pub fn ts<S: Store, B: Bus>(m: &mut Core<S, B>, o: Addressed) -> Result<(), Trap>
+    ensures { Does S.Store.meaning B.Bus.devices (ts_tree o.a.at o.next.at) m.old result m.new }
 {
-    let half = m.load(a.to_half())?;
-    written(m, a.to_half(), with_bit(0, half), bit_of(0, half), next)
+    let half = m.load(o.a.to_half())?;
+    written(m, o.a.to_half(), with_bit(0, half), bit_of(0, half), o.next)
 }
