@@ -11,6 +11,8 @@ use Rattle.processor.specs.declared.cpu.Core.{Core}
 use Rattle.processor.specs.View.{state_of}
 use Rattle.processor.specs.Writes.{put_byte}
 use Rattle.fields.specs.Parts.{low_byte, device_number}
+use Rattle.devices.specs.declared.output.Output.{Output}
+use Rattle.devices.specs.declared.output.Output.TheVariants.{Data, Command}
 use Rattle.operands.specs.Operands.{then, load_byte}
 
 -- The devices are 1 to 255.
@@ -53,6 +55,14 @@ ocr_tree r1 r2 next = seq (device_tree r1) (λ d. if_there d next (seq (reg r2) 
 abbrev pub rdr_tree : ℕ → ℕ → ℕ → Prog
 rdr_tree r1 r2 next = seq (device_tree r1) (λ d. if_there d next (seq (read_from d) (λ b. then (set_reg r2 b) (end_tree 0 next))))
 
+-- What goes out to a device: a byte or a command. register_out_tree Data is wdr_tree, and register_out_tree Command is ocr_tree.
+abbrev pub sent : Output → ℕ → ℕ → Prog
+sent Data d b = write_to d b
+sent Command d b = command_to d b
+
+abbrev pub register_out_tree : Output → ℕ → ℕ → ℕ → Prog
+register_out_tree o r1 r2 next = seq (device_tree r1) (λ d. if_there d next (seq (reg r2) (λ v. then (sent o d (low_byte v)) (end_tree 0 next))))
+
 -- The status of the device that register r names; one that is not there has the status 4.
 unfoldable pub status_tree : ℕ → Prog
 status_tree r = seq (device_tree r) (λ d. cond (d == 0) (ret 4) (sense d))
@@ -69,6 +79,11 @@ wd_tree r1 a next =
 abbrev pub oc_tree : ℕ → ℕ → ℕ → Prog
 oc_tree r1 a next =
     then (check Read a) (seq (device_tree r1) (λ d. if_there d next (seq (load_byte a) (λ b. then (command_to d b) (end_tree 0 next)))))
+
+-- out_tree Data is wd_tree, and out_tree Command is oc_tree.
+abbrev pub out_tree : Output → ℕ → ℕ → ℕ → Prog
+out_tree o r1 a next =
+    then (check Read a) (seq (device_tree r1) (λ d. if_there d next (seq (load_byte a) (λ b. then (sent o d b) (end_tree 0 next)))))
 
 abbrev pub rd_tree : ℕ → ℕ → ℕ → Prog
 rd_tree r1 a next =

@@ -4,47 +4,35 @@ ghost use Rattle.devices.specs.Devices.{rdr_tree, rd_tree};
 use crate::named::{absent, device, end};
 use bus::meaning::Bus;
 use model::{Access, Trap};
+use operands::forms::{Addressed, Between};
 use processor::cpu::Core;
-use registers::words::ProgramAddress;
 use store::meaning::Store;
 
 /// Reads a device into a register.
-pub fn rdr<S: Store, B: Bus>(
-    m: &mut Core<S, B>,
-    r1: u8,
-    r2: u8,
-    next: ProgramAddress,
-) -> Result<(), Trap>
-    ensures { Does S.Store.meaning B.Bus.devices (rdr_tree r1 r2 next.at) m.old result m.new }
+pub fn rdr<S: Store, B: Bus>(m: &mut Core<S, B>, o: Between) -> Result<(), Trap>
+    ensures { Does S.Store.meaning B.Bus.devices (rdr_tree o.r1 o.r2 o.next.at) m.old result m.new }
 {
-    match device(m, r1)? {
-        None => absent(m, next),
-        Some(d) => {
-            let byte = m.read_from(d)?;
-            m.set_reg(r2, byte as u32);
-            end(m, 0, next);
-        }
-    }
+    let Some(d) = device(m, o.r1)? else {
+        absent(m, o.next);
+        return Ok(());
+    };
+    let byte = m.read_from(d)?;
+    m.set_reg(o.r2, byte as u32);
+    end(m, 0, o.next);
     Ok(())
 }
 
 /// Reads a device into a byte of the store.
-pub fn rd<S: Store, B: Bus>(
-    m: &mut Core<S, B>,
-    r1: u8,
-    a: ProgramAddress,
-    next: ProgramAddress,
-) -> Result<(), Trap>
-    ensures { Does S.Store.meaning B.Bus.devices (rd_tree r1 a.at next.at) m.old result m.new }
+pub fn rd<S: Store, B: Bus>(m: &mut Core<S, B>, o: Addressed) -> Result<(), Trap>
+    ensures { Does S.Store.meaning B.Bus.devices (rd_tree o.r1 o.a.at o.next.at) m.old result m.new }
 {
-    m.check(Access::Write, a)?;
-    match device(m, r1)? {
-        None => absent(m, next),
-        Some(d) => {
-            let byte = m.read_from(d)?;
-            m.store_byte(a, byte)?;
-            end(m, 0, next);
-        }
-    }
+    m.check(Access::Write, o.a)?;
+    let Some(d) = device(m, o.r1)? else {
+        absent(m, o.next);
+        return Ok(());
+    };
+    let byte = m.read_from(d)?;
+    m.store_byte(o.a, byte)?;
+    end(m, 0, o.next);
     Ok(())
 }

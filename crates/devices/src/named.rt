@@ -10,6 +10,7 @@ use registers::words::ProgramAddress;
 use store::meaning::Store;
 
 /// Whether no device can have a number.
+#[tactic(auto, unfolding(crate::specs::Devices::no_device))]
 fn no_device(n: u32) -> bool
     ensures value { result ≡ no_device n }
     ensures first { result ≡ false → 1 ≤ n }
@@ -19,6 +20,7 @@ fn no_device(n: u32) -> bool
 }
 
 /// The device that a register names, if it answers.
+#[tactic(auto, unfolding(crate::specs::Devices::device_tree))]
 pub(crate) fn device<S: Store, B: Bus>(m: &Core<S, B>, r1: u8) -> Result<Option<u8>, Trap>
     ensures named { Names S.Store.meaning B.Bus.devices r1 m.now result }
     ensures first { IfOk result (λ d. IfSome d (λ n. 1 ≤ n)) }
@@ -28,7 +30,8 @@ pub(crate) fn device<S: Store, B: Bus>(m: &Core<S, B>, r1: u8) -> Result<Option<
         return Ok(None);
     }
     let d = n as u8;
-    if m.answers(d)? { Ok(Some(d)) } else { Ok(None) }
+    let there = m.answers(d)?;
+    Ok(there.then_some(d))
 }
 
 /// Goes on with a condition code.

@@ -1,93 +1,61 @@
 ghost use Rattle.processor.specs.View.{Does};
-ghost use Rattle.devices.specs.Devices.{wdr_tree, ocr_tree, wd_tree, oc_tree};
+ghost use Rattle.devices.specs.Devices.{sent, register_out_tree, out_tree};
 
 use crate::named::{absent, device, end};
 use bus::meaning::Bus;
 use fields::parts::low_byte;
 use model::{Access, Trap};
 use operands::addresses::load_byte;
+use operands::forms::{Addressed, Between};
 use processor::cpu::Core;
-use registers::words::ProgramAddress;
 use store::meaning::Store;
 
-/// Writes the low byte of a register to a device.
-pub fn wdr<S: Store, B: Bus>(
-    m: &mut Core<S, B>,
-    r1: u8,
-    r2: u8,
-    next: ProgramAddress,
-) -> Result<(), Trap>
-    ensures { Does S.Store.meaning B.Bus.devices (wdr_tree r1 r2 next.at) m.old result m.new }
+/// What goes out to a device.
+#[derive(Clone, Copy, PartialEq, Eq)]
+pub enum Output {
+    Data,
+    Command,
+}
+
+/// Sends a byte to a device.
+fn send<S: Store, B: Bus>(m: &mut Core<S, B>, output: Output, d: u8, byte: u8) -> Result<(), Trap>
+    ensures { Does S.Store.meaning B.Bus.devices (sent output d byte) m.old result m.new }
 {
-    match device(m, r1)? {
-        None => absent(m, next),
-        Some(d) => {
-            let value = m.reg(r2);
-            m.write_to(d, low_byte(value))?;
-            end(m, 0, next);
-        }
+    match output {
+        Output::Data => m.write_to(d, byte),
+        Output::Command => m.command_to(d, byte),
     }
+}
+
+/// Sends a device the low byte of a register.
+pub fn register_out<S: Store, B: Bus>(
+    m: &mut Core<S, B>,
+    output: Output,
+    o: Between,
+) -> Result<(), Trap>
+    ensures { Does S.Store.meaning B.Bus.devices (register_out_tree output o.r1 o.r2 o.next.at) m.old result m.new }
+{
+    let Some(d) = device(m, o.r1)? else {
+        absent(m, o.next);
+        return Ok(());
+    };
+    let value = m.reg(o.r2);
+    send(m, output, d, low_byte(value))?;
+    end(m, 0, o.next);
     Ok(())
 }
 
-/// Gives a device the low byte of a register as a command.
-pub fn ocr<S: Store, B: Bus>(
-    m: &mut Core<S, B>,
-    r1: u8,
-    r2: u8,
-    next: ProgramAddress,
-) -> Result<(), Trap>
-    ensures { Does S.Store.meaning B.Bus.devices (ocr_tree r1 r2 next.at) m.old result m.new }
+/// Sends a device a byte of the store.
+pub fn out<S: Store, B: Bus>(m: &mut Core<S, B>, output: Output, o: Addressed) -> Result<(), Trap>
+    ensures { Does S.Store.meaning B.Bus.devices (out_tree output o.r1 o.a.at o.next.at) m.old result m.new }
 {
-    match device(m, r1)? {
-        None => absent(m, next),
-        Some(d) => {
-            let value = m.reg(r2);
-            m.command_to(d, low_byte(value))?;
-            end(m, 0, next);
-        }
-    }
-    Ok(())
-}
-
-/// Writes a byte of the store to a device.
-pub fn wd<S: Store, B: Bus>(
-    m: &mut Core<S, B>,
-    r1: u8,
-    a: ProgramAddress,
-    next: ProgramAddress,
-) -> Result<(), Trap>
-    ensures { Does S.Store.meaning B.Bus.devices (wd_tree r1 a.at next.at) m.old result m.new }
-{
-    m.check(Access::Read, a)?;
-    match device(m, r1)? {
-        None => absent(m, next),
-        Some(d) => {
-            let byte = load_byte(m, a)?;
-            m.write_to(d, byte)?;
-            end(m, 0, next);
-        }
-    }
-    Ok(())
-}
-
-/// Gives a device a byte of the store as a command.
-pub fn oc<S: Store, B: Bus>(
-    m: &mut Core<S, B>,
-    r1: u8,
-    a: ProgramAddress,
-    next: ProgramAddress,
-) -> Result<(), Trap>
-    ensures { Does S.Store.meaning B.Bus.devices (oc_tree r1 a.at next.at) m.old result m.new }
-{
-    m.check(Access::Read, a)?;
-    match device(m, r1)? {
-        None => absent(m, next),
-        Some(d) => {
-            let byte = load_byte(m, a)?;
-            m.command_to(d, byte)?;
-            end(m, 0, next);
-        }
-    }
+    m.check(Access::Read, o.a)?;
+    let Some(d) = device(m, o.r1)? else {
+        absent(m, o.next);
+        return Ok(());
+    };
+    let byte = load_byte(m, o.a)?;
+    send(m, output, d, byte)?;
+    end(m, 0, o.next);
     Ok(())
 }
