@@ -5,12 +5,14 @@ ghost use Rattle.computing.specs.Computing.{pair_of, multiply_tree, divide_tree,
 use bus::meaning::Bus;
 use model::Trap;
 use operands::addresses::load_full;
+use operands::forms::Addressed;
 use processor::cpu::Core;
 use registers::words::ProgramAddress;
 use store::meaning::Store;
 use words::products::{divided, product};
 
 /// The first register of a pair, of which the other is the next.
+#[tactic(auto, unfolding(crate::specs::Computing::pair_of))]
 fn pair_of(r1: u8) -> u8
     ensures value { result ≡ pair_of r1 }
     ensures small { result ≤ 254 }
@@ -42,40 +44,26 @@ pub fn divide<S: Store, B: Bus>(
     let high = m.reg(first);
     let low = m.reg(first + 1);
     m.jump(next);
-    match divided(high, low, y) {
-        None => Err(Trap::Arithmetic),
-        Some((quotient, remainder)) => {
-            m.set_reg(first, remainder);
-            m.set_reg(first + 1, quotient);
-            Ok(())
-        }
-    }
+    let (quotient, remainder) = divided(high, low, y).ok_or(Trap::Arithmetic)?;
+    m.set_reg(first, remainder);
+    m.set_reg(first + 1, quotient);
+    Ok(())
 }
 
 /// Multiplies by a fullword of the store.
-pub fn multiply_full<S: Store, B: Bus>(
-    m: &mut Core<S, B>,
-    r1: u8,
-    a: ProgramAddress,
-    next: ProgramAddress,
-) -> Result<(), Trap>
-    ensures { Does S.Store.meaning B.Bus.devices (m_tree r1 a.at next.at) m.old result m.new }
+pub fn multiply_full<S: Store, B: Bus>(m: &mut Core<S, B>, o: Addressed) -> Result<(), Trap>
+    ensures { Does S.Store.meaning B.Bus.devices (m_tree o.r1 o.a.at o.next.at) m.old result m.new }
 {
-    let y = load_full(m, a.to_full())?;
-    multiply(m, r1, y);
-    m.jump(next);
+    let y = load_full(m, o.a.to_full())?;
+    multiply(m, o.r1, y);
+    m.jump(o.next);
     Ok(())
 }
 
 /// Divides by a fullword of the store.
-pub fn divide_full<S: Store, B: Bus>(
-    m: &mut Core<S, B>,
-    r1: u8,
-    a: ProgramAddress,
-    next: ProgramAddress,
-) -> Result<(), Trap>
-    ensures { Does S.Store.meaning B.Bus.devices (d_tree r1 a.at next.at) m.old result m.new }
+pub fn divide_full<S: Store, B: Bus>(m: &mut Core<S, B>, o: Addressed) -> Result<(), Trap>
+    ensures { Does S.Store.meaning B.Bus.devices (d_tree o.r1 o.a.at o.next.at) m.old result m.new }
 {
-    let y = load_full(m, a.to_full())?;
-    divide(m, r1, y, next)
+    let y = load_full(m, o.a.to_full())?;
+    divide(m, o.r1, y, o.next)
 }

@@ -8,6 +8,7 @@ ghost use Rattle.multiples.specs.Multiples.{loads, stores, lm_tree, stm_tree};
 use bus::meaning::Bus;
 use model::Trap;
 use operands::addresses::{load_full, store_full};
+use operands::forms::Addressed;
 use processor::cpu::Core;
 use registers::words::ProgramAddress;
 use store::meaning::Store;
@@ -49,29 +50,19 @@ fn store_registers<S: Store, B: Bus>(
 }
 
 /// Loads registers from successive fullwords.
-pub fn lm<S: Store, B: Bus>(
-    m: &mut Core<S, B>,
-    r1: u8,
-    a: ProgramAddress,
-    next: ProgramAddress,
-) -> Result<(), Trap>
-    ensures { Does S.Store.meaning B.Bus.devices (lm_tree r1 a.at next.at) m.old result m.new }
+pub fn lm<S: Store, B: Bus>(m: &mut Core<S, B>, o: Addressed) -> Result<(), Trap>
+    ensures { Does S.Store.meaning B.Bus.devices (lm_tree o.r1 o.a.at o.next.at) m.old result m.new }
 {
-    load_registers(m, r1, a.to_full())?;
-    m.jump(next);
+    load_registers(m, o.r1, o.a.to_full())?;
+    m.jump(o.next);
     Ok(())
 }
 
 /// Stores registers to successive fullwords.
-pub fn stm<S: Store, B: Bus>(
-    m: &mut Core<S, B>,
-    r1: u8,
-    a: ProgramAddress,
-    next: ProgramAddress,
-) -> Result<(), Trap>
-    ensures { Does S.Store.meaning B.Bus.devices (stm_tree r1 a.at next.at) m.old result m.new }
+pub fn stm<S: Store, B: Bus>(m: &mut Core<S, B>, o: Addressed) -> Result<(), Trap>
+    ensures { Does S.Store.meaning B.Bus.devices (stm_tree o.r1 o.a.at o.next.at) m.old result m.new }
 {
-    store_registers(m, r1, a.to_full())?;
-    m.jump(next);
+    store_registers(m, o.r1, o.a.to_full())?;
+    m.jump(o.next);
     Ok(())
 }
