@@ -19,15 +19,15 @@ use Rattle.decode.specs.declared.operations.Operation.{Operation}
 use Rattle.decode.specs.declared.operations.Operation.TheVariants.{Register, Short, Memory, Immediate, LongImmediate, Illegal}
 use Rattle.decode.specs.Codes.{is_privileged, operation_of}
 use Rattle.decode.specs.Forms.{code_field, first_field, second_field}
-use Rattle.operands.specs.Operands.{then, following, index_tree, third_tree, next_of, address_tree, load_full, apply_tree, branch_true, branch_false}
+use Rattle.operands.specs.Operands.{then, following, index_tree, third_tree, next_of, address_tree, load_full, apply_tree, applied_tree, branch_true, branch_false}
 use Rattle.computing.specs.Computing.{srl_tree, sll_tree, sra_tree, sla_tree, rrl_tree, rll_tree, multiply_tree, divide_tree, m_tree, d_tree}
 use Rattle.transfers.specs.Transfers.{exhr_tree, exbr_tree, lbr_tree, stbr_tree, sth_tree, st_tree, lhl_tree, lb_tree, stb_tree, clb_tree, am_tree, ahm_tree, ts_tree, tbt_tree, sbt_tree, rbt_tree, cbt_tree, bxh_tree, bxle_tree}
 use Rattle.multiples.specs.Multiples.{lm_tree, stm_tree}
 use Rattle.devices.specs.Devices.{wdr_tree, ocr_tree, rdr_tree, ssr_tree, wd_tree, oc_tree, rd_tree, ss_tree}
 
--- ── RR: registers r1 and r2; the instruction stands at own ──
+-- ── RR: registers r1 and r2; next is the address of the next instruction ──
 abbrev pub balr_tree : ℕ → ℕ → ℕ → Prog
-balr_tree own r1 r2 = seq (reg r2) (λ t. then (set_reg r1 (address (own + 2))) (jump (address t)))
+balr_tree r1 r2 next = seq (reg r2) (λ t. then (set_reg r1 next) (jump (address t)))
 
 -- The two registers are those of the set in use before; after register 15 comes 0.
 abbrev pub lpswr_tree : ℕ → Prog
@@ -35,26 +35,26 @@ lpswr_tree r2 = seq (reg r2) (λ status. seq (reg (following r2 1)) (λ location
 
 -- r1 takes the status before r2 is read, so that equal ones leave the status.
 abbrev pub epsr_tree : ℕ → ℕ → ℕ → Prog
-epsr_tree own r1 r2 =
-    seq get_status (λ old. then (set_reg r1 old) (seq (reg r2) (λ new. then (set_status new) (jump (address (own + 2))))))
+epsr_tree r1 r2 next =
+    seq get_status (λ old. then (set_reg r1 old) (seq (reg r2) (λ new. then (set_status new) (jump next))))
 
 abbrev pub register_tree : RegisterOp → ℕ → ℕ → ℕ → Prog
-register_tree Balr own r1 r2 = balr_tree own r1 r2
-register_tree Btcr own r1 r2 = seq (reg r2) (λ t. branch_true r1 (address t) (address (own + 2)))
-register_tree Bfcr own r1 r2 = seq (reg r2) (λ t. branch_false r1 (address t) (address (own + 2)))
-register_tree (WithRegister f) own r1 r2 = seq (reg r2) (λ y. then (apply_tree f r1 y) (jump (address (own + 2))))
-register_tree Lpswr own r1 r2 = lpswr_tree r2
-register_tree Mr own r1 r2 = seq (reg r2) (λ y. then (multiply_tree r1 y) (jump (address (own + 2))))
-register_tree Dr own r1 r2 = seq (reg r2) (λ y. divide_tree r1 y (address (own + 2)))
-register_tree Exhr own r1 r2 = then (exhr_tree r1 r2) (jump (address (own + 2)))
-register_tree Stbr own r1 r2 = then (stbr_tree r1 r2) (jump (address (own + 2)))
-register_tree Lbr own r1 r2 = then (lbr_tree r1 r2) (jump (address (own + 2)))
-register_tree Exbr own r1 r2 = then (exbr_tree r1 r2) (jump (address (own + 2)))
-register_tree Epsr own r1 r2 = epsr_tree own r1 r2
-register_tree Wdr own r1 r2 = wdr_tree r1 r2 (address (own + 2))
-register_tree Rdr own r1 r2 = rdr_tree r1 r2 (address (own + 2))
-register_tree Ssr own r1 r2 = ssr_tree r1 r2 (address (own + 2))
-register_tree Ocr own r1 r2 = ocr_tree r1 r2 (address (own + 2))
+register_tree Balr r1 r2 next = balr_tree r1 r2 next
+register_tree Btcr r1 r2 next = seq (reg r2) (λ t. branch_true r1 (address t) next)
+register_tree Bfcr r1 r2 next = seq (reg r2) (λ t. branch_false r1 (address t) next)
+register_tree (WithRegister f) r1 r2 next = seq (reg r2) (λ y. applied_tree f r1 y next)
+register_tree Lpswr r1 r2 next = lpswr_tree r2
+register_tree Mr r1 r2 next = seq (reg r2) (λ y. then (multiply_tree r1 y) (jump next))
+register_tree Dr r1 r2 next = seq (reg r2) (λ y. divide_tree r1 y next)
+register_tree Exhr r1 r2 next = then (exhr_tree r1 r2) (jump next)
+register_tree Stbr r1 r2 next = then (stbr_tree r1 r2) (jump next)
+register_tree Lbr r1 r2 next = then (lbr_tree r1 r2) (jump next)
+register_tree Exbr r1 r2 next = then (exbr_tree r1 r2) (jump next)
+register_tree Epsr r1 r2 next = epsr_tree r1 r2 next
+register_tree Wdr r1 r2 next = wdr_tree r1 r2 next
+register_tree Rdr r1 r2 next = rdr_tree r1 r2 next
+register_tree Ssr r1 r2 next = ssr_tree r1 r2 next
+register_tree Ocr r1 r2 next = ocr_tree r1 r2 next
 
 -- ── SF: register r1 and the number n ──
 abbrev pub short_tree : ShortOp → ℕ → ℕ → ℕ → Prog
@@ -154,7 +154,7 @@ long_body f own h =
     (jump (address (own + 6))))))
 
 abbrev pub body_of : Operation → ℕ → ℕ → Prog
-body_of (Register o) own h = register_tree o own (first_field h) (second_field h)
+body_of (Register o) own h = register_tree o (first_field h) (second_field h) (address (own + 2))
 body_of (Short o) own h = short_tree o own (first_field h) (second_field h)
 body_of (Memory o) own h = memory_body o own h
 body_of (Immediate o) own h = immediate_body o own h

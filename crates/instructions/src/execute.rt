@@ -9,6 +9,7 @@ use decode::codes::operation;
 use decode::forms::{code_field, first_field, second_field};
 use decode::operations::Operation;
 use model::Trap;
+use operands::forms::Between;
 use processor::cpu::Core;
 use registers::words::ProgramAddress;
 use store::meaning::Store;
@@ -23,8 +24,19 @@ fn body<S: Store, B: Bus>(
     ensures { Does S.Store.meaning B.Bus.devices (body_of operation own.at first) m.old result m.new }
 {
     match operation {
-        Operation::Register(o) => register(m, o, own, first_field(first), second_field(first)),
-        Operation::Short(o) => short(m, o, own, first_field(first), second_field(first)),
+        Operation::Register(o) => register(
+            m,
+            o,
+            Between {
+                r1: first_field(first),
+                r2: second_field(first),
+                next: own.plus(2),
+            },
+        ),
+        Operation::Short(o) => {
+            short(m, o, own, first_field(first), second_field(first));
+            Ok(())
+        }
         Operation::Memory(o) => memory_body(m, o, own, first),
         Operation::Immediate(o) => immediate_body(m, o, own, first),
         Operation::LongImmediate(f) => long_body(m, f, own, first),

@@ -1,4 +1,5 @@
-ghost use Rattle.processor.specs.View.{Does};
+ghost use Rattle.std.specs.Prelude.{◌≡◌};
+ghost use Rattle.processor.specs.View.{Does, Sets};
 ghost use Rattle.instructions.specs.Instructions.{immediate_tree, immediate_body, long_body};
 
 use bus::meaning::Bus;
@@ -8,54 +9,30 @@ use decode::operations::{Form, Function, ImmediateOp};
 use fields::parts::joined;
 use model::Trap;
 use operands::addresses::index;
-use operands::functions::apply;
+use operands::functions::{applied, apply};
 use processor::cpu::Core;
 use registers::words::ProgramAddress;
 use store::meaning::Store;
 use words::sums::{extended, sum};
 
 /// An operation with an operand of one halfword.
-fn immediate<S: Store, B: Bus>(
-    m: &mut Core<S, B>,
-    operation: ImmediateOp,
-    r1: u8,
-    y: u32,
-) -> Result<(), Trap>
-    ensures { Does S.Store.meaning B.Bus.devices (immediate_tree operation r1 y) m.old result m.new }
+fn immediate<S: Store, B: Bus>(m: &mut Core<S, B>, operation: ImmediateOp, r1: u8, y: u32)
+    ensures does { Sets S.Store.meaning B.Bus.devices (immediate_tree operation r1 y) m.old m.new }
+    ensures quiet { m.new.bus ≡ m.old.bus }
 {
     match operation {
-        ImmediateOp::WithImmediate(function) => {
-            apply(m, function, r1, y);
-            Ok(())
-        }
-        ImmediateOp::Rrl => {
-            rrl(m, r1, y);
-            Ok(())
-        }
-        ImmediateOp::Rll => {
-            rll(m, r1, y);
-            Ok(())
-        }
-        ImmediateOp::Srl => {
-            srl(m, r1, y);
-            Ok(())
-        }
-        ImmediateOp::Sll => {
-            sll(m, r1, y);
-            Ok(())
-        }
-        ImmediateOp::Sra => {
-            sra(m, r1, y);
-            Ok(())
-        }
-        ImmediateOp::Sla => {
-            sla(m, r1, y);
-            Ok(())
-        }
+        ImmediateOp::WithImmediate(function) => apply(m, function, r1, y),
+        ImmediateOp::Rrl => rrl(m, r1, y),
+        ImmediateOp::Rll => rll(m, r1, y),
+        ImmediateOp::Srl => srl(m, r1, y),
+        ImmediateOp::Sll => sll(m, r1, y),
+        ImmediateOp::Sra => sra(m, r1, y),
+        ImmediateOp::Sla => sla(m, r1, y),
     }
 }
 
 /// Fetches the operand of one halfword, and does the operation.
+#[tactic(auto, unfolding(crate::specs::Instructions::immediate_body))]
 pub fn immediate_body<S: Store, B: Bus>(
     m: &mut Core<S, B>,
     operation: ImmediateOp,
@@ -66,23 +43,16 @@ pub fn immediate_body<S: Store, B: Bus>(
 {
     let second = m.fetch(own.plus(2))?;
     let words = [first, second];
-    match take_apart(Form::Pair, &words) {
-        Some(parts) => {
-            let index = index(m, second_field(parts.first));
-            immediate(
-                m,
-                operation,
-                first_field(parts.first),
-                sum(extended(parts.second), index),
-            )?;
-            m.jump(own.plus(4));
-            Ok(())
-        }
-        None => Err(Trap::Illegal),
-    }
+    let parts = take_apart(Form::Pair, &words).ok_or(Trap::Illegal)?;
+    let index = index(m, second_field(parts.first));
+    let y = sum(extended(parts.second), index);
+    immediate(m, operation, first_field(parts.first), y);
+    m.jump(own.plus(4));
+    Ok(())
 }
 
 /// Fetches the operand of two halfwords, and applies a function.
+#[tactic(auto, unfolding(crate::specs::Instructions::long_body))]
 pub fn long_body<S: Store, B: Bus>(
     m: &mut Core<S, B>,
     function: Function,
@@ -94,18 +64,9 @@ pub fn long_body<S: Store, B: Bus>(
     let second = m.fetch(own.plus(2))?;
     let third = m.fetch(own.plus(4))?;
     let words = [first, second, third];
-    match take_apart(Form::Triple, &words) {
-        Some(parts) => {
-            let index = index(m, second_field(parts.first));
-            apply(
-                m,
-                function,
-                first_field(parts.first),
-                sum(joined(parts.second, parts.third), index),
-            );
-            m.jump(own.plus(6));
-            Ok(())
-        }
-        None => Err(Trap::Illegal),
-    }
+    let parts = take_apart(Form::Triple, &words).ok_or(Trap::Illegal)?;
+    let index = index(m, second_field(parts.first));
+    let y = sum(joined(parts.second, parts.third), index);
+    applied(m, function, first_field(parts.first), y, own.plus(6));
+    Ok(())
 }

@@ -6,17 +6,18 @@ use computing::products::{divide_full, multiply_full};
 use decode::forms::{Parts, first_field, take_apart};
 use decode::operations::{Form, Function, MemoryOp};
 use devices::input::rd;
-use devices::output::{oc, wd};
+use devices::output::{Output, out};
 use devices::sensing::ss;
 use model::Trap;
 use multiples::{lm, stm};
 use operands::addresses::{address, load_full, next, third};
 use operands::branches::{branch_false, branch_true};
-use operands::functions::apply;
+use operands::forms::Addressed;
+use operands::functions::applied;
 use processor::cpu::Core;
 use registers::words::ProgramAddress;
 use store::meaning::Store;
-use transfers::bits::{cbt, rbt, sbt, tbt};
+use transfers::bits::{BitChange, change_bit, tbt};
 use transfers::loops::{bxh, bxle};
 use transfers::moves::{clb, lb, lhl, st, stb, sth};
 use transfers::updates::{ahm, am, ts};
@@ -26,15 +27,12 @@ use words::sums::extended;
 fn with_half<S: Store, B: Bus>(
     m: &mut Core<S, B>,
     function: Function,
-    r1: u8,
-    a: ProgramAddress,
-    next: ProgramAddress,
+    o: Addressed,
 ) -> Result<(), Trap>
-    ensures { Does S.Store.meaning B.Bus.devices (with_half_tree function r1 a.at next.at) m.old result m.new }
+    ensures { Does S.Store.meaning B.Bus.devices (with_half_tree function o.r1 o.a.at o.next.at) m.old result m.new }
 {
-    let half = m.load(a.to_half())?;
-    apply(m, function, r1, extended(half));
-    m.jump(next);
+    let half = m.load(o.a.to_half())?;
+    applied(m, function, o.r1, extended(half), o.next);
     Ok(())
 }
 
@@ -42,15 +40,12 @@ fn with_half<S: Store, B: Bus>(
 fn with_full<S: Store, B: Bus>(
     m: &mut Core<S, B>,
     function: Function,
-    r1: u8,
-    a: ProgramAddress,
-    next: ProgramAddress,
+    o: Addressed,
 ) -> Result<(), Trap>
-    ensures { Does S.Store.meaning B.Bus.devices (with_full_tree function r1 a.at next.at) m.old result m.new }
+    ensures { Does S.Store.meaning B.Bus.devices (with_full_tree function o.r1 o.a.at o.next.at) m.old result m.new }
 {
-    let y = load_full(m, a.to_full())?;
-    apply(m, function, r1, y);
-    m.jump(next);
+    let y = load_full(m, o.a.to_full())?;
+    applied(m, function, o.r1, y, o.next);
     Ok(())
 }
 
@@ -66,84 +61,65 @@ fn lpsw<S: Store, B: Bus>(m: &mut Core<S, B>, a: ProgramAddress) -> Result<(), T
 }
 
 /// Calls the supervisor.
-fn svc<S: Store, B: Bus>(
-    m: &mut Core<S, B>,
-    r1: u8,
-    a: ProgramAddress,
-    next: ProgramAddress,
-) -> Result<(), Trap>
-    ensures { Does S.Store.meaning B.Bus.devices (svc_tree r1 a.at next.at) m.old result m.new }
+fn svc<S: Store, B: Bus>(m: &mut Core<S, B>, o: Addressed) -> Result<(), Trap>
+    ensures { Does S.Store.meaning B.Bus.devices (svc_tree o.r1 o.a.at o.next.at) m.old result m.new }
 {
-    m.jump(next);
-    Err(Trap::Supervisor(r1, a.number()))
+    m.jump(o.next);
+    Err(Trap::Supervisor(o.r1, o.a.number()))
 }
 
 /// An operation with an address.
 pub fn memory<S: Store, B: Bus>(
     m: &mut Core<S, B>,
     operation: MemoryOp,
-    r1: u8,
-    a: ProgramAddress,
-    next: ProgramAddress,
+    o: Addressed,
 ) -> Result<(), Trap>
-    ensures { Does S.Store.meaning B.Bus.devices (memory_tree operation r1 a.at next.at) m.old result m.new }
+    ensures { Does S.Store.meaning B.Bus.devices (memory_tree operation o.r1 o.a.at o.next.at) m.old result m.new }
 {
     match operation {
-        MemoryOp::Sth => sth(m, r1, a, next),
+        MemoryOp::Sth => sth(m, o)?,
         MemoryOp::Bal => {
-            m.set_reg(r1, next.number());
-            m.jump(a);
-            Ok(())
+            m.set_reg(o.r1, o.next.number());
+            m.jump(o.a);
         }
-        MemoryOp::Btc => {
-            branch_true(m, r1, a, next);
-            Ok(())
-        }
-        MemoryOp::Bfc => {
-            branch_false(m, r1, a, next);
-            Ok(())
-        }
-        MemoryOp::WithHalf(function) => with_half(m, function, r1, a, next),
-        MemoryOp::St => st(m, r1, a, next),
-        MemoryOp::WithFull(function) => with_full(m, function, r1, a, next),
-        MemoryOp::Lpsw => lpsw(m, a),
-        MemoryOp::Svc => svc(m, r1, a, next),
+        MemoryOp::Btc => branch_true(m, o.r1, o.a, o.next),
+        MemoryOp::Bfc => branch_false(m, o.r1, o.a, o.next),
+        MemoryOp::WithHalf(function) => with_half(m, function, o)?,
+        MemoryOp::St => st(m, o)?,
+        MemoryOp::WithFull(function) => with_full(m, function, o)?,
+        MemoryOp::Lpsw => lpsw(m, o.a)?,
+        MemoryOp::Svc => svc(m, o)?,
         MemoryOp::La => {
-            m.set_reg(r1, a.number());
-            m.jump(next);
-            Ok(())
+            m.set_reg(o.r1, o.a.number());
+            m.jump(o.next);
         }
-        MemoryOp::Am => am(m, r1, a, next),
-        MemoryOp::M => multiply_full(m, r1, a, next),
-        MemoryOp::D => divide_full(m, r1, a, next),
-        MemoryOp::Ahm => ahm(m, r1, a, next),
-        MemoryOp::Lhl => lhl(m, r1, a, next),
-        MemoryOp::Tbt => tbt(m, r1, a, next),
-        MemoryOp::Sbt => sbt(m, r1, a, next),
-        MemoryOp::Rbt => rbt(m, r1, a, next),
-        MemoryOp::Cbt => cbt(m, r1, a, next),
-        MemoryOp::Bxh => {
-            bxh(m, r1, a, next);
-            Ok(())
-        }
-        MemoryOp::Bxle => {
-            bxle(m, r1, a, next);
-            Ok(())
-        }
-        MemoryOp::Stm => stm(m, r1, a, next),
-        MemoryOp::Lm => lm(m, r1, a, next),
-        MemoryOp::Stb => stb(m, r1, a, next),
-        MemoryOp::Lb => lb(m, r1, a, next),
-        MemoryOp::Clb => clb(m, r1, a, next),
-        MemoryOp::Wd => wd(m, r1, a, next),
-        MemoryOp::Rd => rd(m, r1, a, next),
-        MemoryOp::Ss => ss(m, r1, a, next),
-        MemoryOp::Oc => oc(m, r1, a, next),
-        MemoryOp::Ts => ts(m, a, next),
+        MemoryOp::Am => am(m, o)?,
+        MemoryOp::M => multiply_full(m, o)?,
+        MemoryOp::D => divide_full(m, o)?,
+        MemoryOp::Ahm => ahm(m, o)?,
+        MemoryOp::Lhl => lhl(m, o)?,
+        MemoryOp::Tbt => tbt(m, o)?,
+        MemoryOp::Sbt => change_bit(m, BitChange::Set, o)?,
+        MemoryOp::Rbt => change_bit(m, BitChange::Clear, o)?,
+        MemoryOp::Cbt => change_bit(m, BitChange::Complement, o)?,
+        MemoryOp::Bxh => bxh(m, o),
+        MemoryOp::Bxle => bxle(m, o),
+        MemoryOp::Stm => stm(m, o)?,
+        MemoryOp::Lm => lm(m, o)?,
+        MemoryOp::Stb => stb(m, o)?,
+        MemoryOp::Lb => lb(m, o)?,
+        MemoryOp::Clb => clb(m, o)?,
+        MemoryOp::Wd => out(m, Output::Data, o)?,
+        MemoryOp::Rd => rd(m, o)?,
+        MemoryOp::Ss => ss(m, o)?,
+        MemoryOp::Oc => out(m, Output::Command, o)?,
+        MemoryOp::Ts => ts(m, o)?,
     }
+    Ok(())
 }
 
 /// Does an instruction with an address that was taken apart.
+#[tactic(auto, unfolding(crate::specs::Instructions::addressed_tree))]
 fn addressed<S: Store, B: Bus>(
     m: &mut Core<S, B>,
     operation: MemoryOp,
@@ -152,17 +128,16 @@ fn addressed<S: Store, B: Bus>(
 ) -> Result<(), Trap>
     ensures { Does S.Store.meaning B.Bus.devices (addressed_tree operation own.at parts.entry.first parts.entry.second parts.entry.third) m.old result m.new }
 {
-    let a = address(m, own, parts);
-    memory(
-        m,
-        operation,
-        first_field(parts.first),
-        a,
-        next(own, parts.second),
-    )
+    let o = Addressed {
+        r1: first_field(parts.first),
+        a: address(m, own, parts),
+        next: next(own, parts.second),
+    };
+    memory(m, operation, o)
 }
 
 /// Fetches the rest of an instruction with an address, and does it.
+#[tactic(auto, unfolding(crate::specs::Instructions::memory_body))]
 pub fn memory_body<S: Store, B: Bus>(
     m: &mut Core<S, B>,
     operation: MemoryOp,
@@ -174,8 +149,6 @@ pub fn memory_body<S: Store, B: Bus>(
     let second = m.fetch(own.plus(2))?;
     let third = third(m, own, second)?;
     let words = [first, second, third];
-    match take_apart(Form::Indexed, &words) {
-        Some(parts) => addressed(m, operation, own, parts),
-        None => Err(Trap::Illegal),
-    }
+    let parts = take_apart(Form::Indexed, &words).ok_or(Trap::Illegal)?;
+    addressed(m, operation, own, parts)
 }

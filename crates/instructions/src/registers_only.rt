@@ -1,8 +1,5 @@
-ghost use Rattle.processor.specs.View.{Does};
-ghost use Rattle.std.specs.Prelude.{◌+◌};
-ghost use Rattle.model.specs.Status.{address};
-ghost use Rattle.model.specs.Effects.{jump};
-ghost use Rattle.operands.specs.Operands.{then, apply_tree};
+ghost use Rattle.std.specs.Prelude.{◌≡◌};
+ghost use Rattle.processor.specs.View.{Does, Sets};
 ghost use Rattle.instructions.specs.Instructions.{balr_tree, lpswr_tree, epsr_tree, register_tree, short_tree};
 
 use bus::meaning::Bus;
@@ -10,12 +7,13 @@ use computing::products::{divide, multiply};
 use computing::turns::{sll, srl};
 use decode::operations::{Function, RegisterOp, ShortOp};
 use devices::input::rdr;
-use devices::output::{ocr, wdr};
+use devices::output::{Output, register_out};
 use devices::sensing::ssr;
 use model::Trap;
 use operands::addresses::following;
 use operands::branches::{branch_false, branch_true};
-use operands::functions::apply;
+use operands::forms::Between;
+use operands::functions::applied;
 use processor::cpu::Core;
 use registers::words::ProgramAddress;
 use store::meaning::Store;
@@ -23,18 +21,12 @@ use transfers::between::{exbr, exhr, lbr, stbr};
 use words::sums::difference;
 
 /// Branch and link: the target is taken before the register changes.
-fn balr<S: Store, B: Bus>(
-    m: &mut Core<S, B>,
-    own: ProgramAddress,
-    r1: u8,
-    r2: u8,
-) -> Result<(), Trap>
-    ensures { Does S.Store.meaning B.Bus.devices (balr_tree own.at r1 r2) m.old result m.new }
+fn balr<S: Store, B: Bus>(m: &mut Core<S, B>, o: Between)
+    ensures { Sets S.Store.meaning B.Bus.devices (balr_tree o.r1 o.r2 o.next.at) m.old m.new }
 {
-    let target = m.reg(r2);
-    m.set_reg(r1, own.plus(2).number());
+    let target = m.reg(o.r2);
+    m.set_reg(o.r1, o.next.number());
     m.jump(ProgramAddress::new(target));
-    Ok(())
 }
 
 /// Loads a PSW from two registers.
@@ -49,19 +41,14 @@ fn lpswr<S: Store, B: Bus>(m: &mut Core<S, B>, r2: u8) -> Result<(), Trap>
 }
 
 /// Exchanges the status: the first register takes the old one before the second is read.
-fn epsr<S: Store, B: Bus>(
-    m: &mut Core<S, B>,
-    own: ProgramAddress,
-    r1: u8,
-    r2: u8,
-) -> Result<(), Trap>
-    ensures { Does S.Store.meaning B.Bus.devices (epsr_tree own.at r1 r2) m.old result m.new }
+fn epsr<S: Store, B: Bus>(m: &mut Core<S, B>, o: Between) -> Result<(), Trap>
+    ensures { Does S.Store.meaning B.Bus.devices (epsr_tree o.r1 o.r2 o.next.at) m.old result m.new }
 {
     let old = m.status()?;
-    m.set_reg(r1, old);
-    let new = m.reg(r2);
+    m.set_reg(o.r1, old);
+    let new = m.reg(o.r2);
     m.set_status(new)?;
-    m.jump(own.plus(2));
+    m.jump(o.next);
     Ok(())
 }
 
@@ -69,81 +56,56 @@ fn epsr<S: Store, B: Bus>(
 pub fn register<S: Store, B: Bus>(
     m: &mut Core<S, B>,
     operation: RegisterOp,
-    own: ProgramAddress,
-    r1: u8,
-    r2: u8,
+    o: Between,
 ) -> Result<(), Trap>
-    ensures { Does S.Store.meaning B.Bus.devices (register_tree operation own.at r1 r2) m.old result m.new }
+    ensures { Does S.Store.meaning B.Bus.devices (register_tree operation o.r1 o.r2 o.next.at) m.old result m.new }
 {
     match operation {
-        RegisterOp::Balr => balr(m, own, r1, r2),
+        RegisterOp::Balr => balr(m, o),
         RegisterOp::Btcr => {
-            let target = m.reg(r2);
-            branch_true(m, r1, ProgramAddress::new(target), own.plus(2));
-            Ok(())
+            let target = m.reg(o.r2);
+            branch_true(m, o.r1, ProgramAddress::new(target), o.next);
         }
         RegisterOp::Bfcr => {
-            let target = m.reg(r2);
-            branch_false(m, r1, ProgramAddress::new(target), own.plus(2));
-            Ok(())
+            let target = m.reg(o.r2);
+            branch_false(m, o.r1, ProgramAddress::new(target), o.next);
         }
         RegisterOp::WithRegister(function) => {
-            let y = m.reg(r2);
-            apply(m, function, r1, y);
-            m.jump(own.plus(2));
-            Ok(())
+            let y = m.reg(o.r2);
+            applied(m, function, o.r1, y, o.next);
         }
-        RegisterOp::Lpswr => lpswr(m, r2),
+        RegisterOp::Lpswr => lpswr(m, o.r2)?,
         RegisterOp::Mr => {
-            let y = m.reg(r2);
-            multiply(m, r1, y);
-            m.jump(own.plus(2));
-            Ok(())
+            let y = m.reg(o.r2);
+            multiply(m, o.r1, y);
+            m.jump(o.next);
         }
         RegisterOp::Dr => {
-            let y = m.reg(r2);
-            divide(m, r1, y, own.plus(2))
+            let y = m.reg(o.r2);
+            divide(m, o.r1, y, o.next)?;
         }
         RegisterOp::Exhr => {
-            exhr(m, r1, r2);
-            m.jump(own.plus(2));
-            Ok(())
+            exhr(m, o.r1, o.r2);
+            m.jump(o.next);
         }
         RegisterOp::Stbr => {
-            stbr(m, r1, r2);
-            m.jump(own.plus(2));
-            Ok(())
+            stbr(m, o.r1, o.r2);
+            m.jump(o.next);
         }
         RegisterOp::Lbr => {
-            lbr(m, r1, r2);
-            m.jump(own.plus(2));
-            Ok(())
+            lbr(m, o.r1, o.r2);
+            m.jump(o.next);
         }
         RegisterOp::Exbr => {
-            exbr(m, r1, r2);
-            m.jump(own.plus(2));
-            Ok(())
+            exbr(m, o.r1, o.r2);
+            m.jump(o.next);
         }
-        RegisterOp::Epsr => epsr(m, own, r1, r2),
-        RegisterOp::Wdr => wdr(m, r1, r2, own.plus(2)),
-        RegisterOp::Rdr => rdr(m, r1, r2, own.plus(2)),
-        RegisterOp::Ssr => ssr(m, r1, r2, own.plus(2)),
-        RegisterOp::Ocr => ocr(m, r1, r2, own.plus(2)),
+        RegisterOp::Epsr => epsr(m, o)?,
+        RegisterOp::Wdr => register_out(m, Output::Data, o)?,
+        RegisterOp::Rdr => rdr(m, o)?,
+        RegisterOp::Ssr => ssr(m, o)?,
+        RegisterOp::Ocr => register_out(m, Output::Command, o)?,
     }
-}
-
-/// Applies a function to a register and a number, and goes on.
-fn applied<S: Store, B: Bus>(
-    m: &mut Core<S, B>,
-    function: Function,
-    own: ProgramAddress,
-    r1: u8,
-    y: u32,
-) -> Result<(), Trap>
-    ensures { Does S.Store.meaning B.Bus.devices (then (apply_tree function r1 y) (jump (address (own.at + 2)))) m.old result m.new }
-{
-    apply(m, function, r1, y);
-    m.jump(own.plus(2));
     Ok(())
 }
 
@@ -154,40 +116,27 @@ pub fn short<S: Store, B: Bus>(
     own: ProgramAddress,
     r1: u8,
     n: u8,
-) -> Result<(), Trap>
-    ensures { Does S.Store.meaning B.Bus.devices (short_tree operation own.at r1 n) m.old result m.new }
+)
+    ensures { Sets S.Store.meaning B.Bus.devices (short_tree operation own.at r1 n) m.old m.new }
 {
+    let next = own.plus(2);
     let distance = 2 * n as u16;
     match operation {
         ShortOp::Srls => {
             srl(m, r1, n as u32);
-            m.jump(own.plus(2));
-            Ok(())
+            m.jump(next);
         }
         ShortOp::Slls => {
             sll(m, r1, n as u32);
-            m.jump(own.plus(2));
-            Ok(())
+            m.jump(next);
         }
-        ShortOp::Btbs => {
-            branch_true(m, r1, own.minus(distance), own.plus(2));
-            Ok(())
-        }
-        ShortOp::Btfs => {
-            branch_true(m, r1, own.plus(distance), own.plus(2));
-            Ok(())
-        }
-        ShortOp::Bfbs => {
-            branch_false(m, r1, own.minus(distance), own.plus(2));
-            Ok(())
-        }
-        ShortOp::Bffs => {
-            branch_false(m, r1, own.plus(distance), own.plus(2));
-            Ok(())
-        }
-        ShortOp::Lis => applied(m, Function::Load, own, r1, n as u32),
-        ShortOp::Lcs => applied(m, Function::Load, own, r1, difference(0, n as u32)),
-        ShortOp::Ais => applied(m, Function::Add, own, r1, n as u32),
-        ShortOp::Sis => applied(m, Function::Subtract, own, r1, n as u32),
+        ShortOp::Btbs => branch_true(m, r1, own.minus(distance), next),
+        ShortOp::Btfs => branch_true(m, r1, own.plus(distance), next),
+        ShortOp::Bfbs => branch_false(m, r1, own.minus(distance), next),
+        ShortOp::Bffs => branch_false(m, r1, own.plus(distance), next),
+        ShortOp::Lis => applied(m, Function::Load, r1, n as u32, next),
+        ShortOp::Lcs => applied(m, Function::Load, r1, difference(0, n as u32), next),
+        ShortOp::Ais => applied(m, Function::Add, r1, n as u32, next),
+        ShortOp::Sis => applied(m, Function::Subtract, r1, n as u32, next),
     }
 }
