@@ -4,13 +4,18 @@ use Rattle.model.specs.declared.Trap.TheVariants.{Arithmetic}
 use Rattle.model.specs.Status.{to_full}
 use Rattle.model.specs.Effects.{Prog, stop, reg, set_reg, set_code, jump, seq}
 use Rattle.words.specs.Products.{product_high, product_low, divided}
-use Rattle.shifts.specs.Shifts.{shift_right, shift_left, shift_right_arithmetic, shift_left_arithmetic, rotate_right, rotate_left, shift_right_code, shift_left_code, shift_right_arithmetic_code, shift_left_arithmetic_code, rotate_right_code, rotate_left_code}
+use Rattle.shifts.specs.declared.Shift.{Shift}
+use Rattle.shifts.specs.Shifts.{shifted, shifted_code, shift_right, shift_left, shift_right_arithmetic, shift_left_arithmetic, rotate_right, rotate_left, shift_right_code, shift_left_code, shift_right_arithmetic_code, shift_left_arithmetic_code, rotate_right_code, rotate_left_code}
 use Rattle.operands.specs.Operands.{then, load_full}
 
 -- ── Shifts and rotates of register r; a count is taken modulo 32 ──
 -- A result that goes to the register, with its condition code.
 abbrev pub coded_tree : ℕ → ℕ → ℕ → Prog
 coded_tree r v code = then (set_reg r v) (set_code code)
+
+-- shift_tree Right is srl_tree, shift_tree Left is sll_tree, and so on.
+abbrev pub shift_tree : Shift → ℕ → ℕ → Prog
+shift_tree s r n = seq (reg r) (λ v. coded_tree r (shifted s v (n % 32)) (shifted_code s v (n % 32)))
 
 abbrev pub srl_tree : ℕ → ℕ → Prog
 srl_tree r n = seq (reg r) (λ v. coded_tree r (shift_right v (n % 32)) (shift_right_code v (n % 32)))

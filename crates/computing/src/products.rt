@@ -1,5 +1,5 @@
 ghost use Rattle.std.specs.Prelude.{◌≡◌, ◌≤◌};
-ghost use Rattle.processor.specs.View.{Does, Sets};
+ghost use Rattle.processor.specs.View.{Does, SetsQuietly};
 ghost use Rattle.computing.specs.Computing.{pair_of, multiply_tree, divide_tree, m_tree, d_tree};
 
 use bus::meaning::Bus;
@@ -22,8 +22,7 @@ fn pair_of(r1: u8) -> u8
 
 /// Multiplies the second register of a pair; the pair takes the product.
 pub fn multiply<S: Store, B: Bus>(m: &mut Core<S, B>, r1: u8, y: u32)
-    ensures does { Sets S.Store.meaning B.Bus.devices (multiply_tree r1 y) m.old m.new }
-    ensures quiet { m.new.bus ≡ m.old.bus }
+    ensures { SetsQuietly S.Store.meaning B.Bus.devices (multiply_tree r1 y) m.old m.new }
 {
     let first = pair_of(r1);
     let (high, low) = product(m.reg(first + 1), y);

@@ -1,5 +1,5 @@
 ghost use Rattle.std.specs.Prelude.{◌≡◌, ◌<◌, ◌≤◌, false, IfSome, IfOk};
-ghost use Rattle.processor.specs.View.{Sets};
+ghost use Rattle.processor.specs.View.{SetsQuietly};
 ghost use Rattle.devices.specs.Devices.{no_device, Names, end_tree};
 
 use bus::meaning::Bus;
@@ -36,8 +36,7 @@ pub(crate) fn device<S: Store, B: Bus>(m: &Core<S, B>, r1: u8) -> Result<Option<
 
 /// Goes on with a condition code.
 pub(crate) fn end<S: Store, B: Bus>(m: &mut Core<S, B>, code: u32, next: ProgramAddress)
-    ensures does { Sets S.Store.meaning B.Bus.devices (end_tree code next.at) m.old m.new }
-    ensures quiet { m.new.bus ≡ m.old.bus }
+    ensures { SetsQuietly S.Store.meaning B.Bus.devices (end_tree code next.at) m.old m.new }
 {
     m.set_code(code);
     m.jump(next);
@@ -45,8 +44,7 @@ pub(crate) fn end<S: Store, B: Bus>(m: &mut Core<S, B>, code: u32, next: Program
 
 /// Goes on where the device does not answer.
 pub(crate) fn absent<S: Store, B: Bus>(m: &mut Core<S, B>, next: ProgramAddress)
-    ensures does { Sets S.Store.meaning B.Bus.devices (end_tree 4 next.at) m.old m.new }
-    ensures quiet { m.new.bus ≡ m.old.bus }
+    ensures { SetsQuietly S.Store.meaning B.Bus.devices (end_tree 4 next.at) m.old m.new }
 {
     end(m, 4, next);
 }

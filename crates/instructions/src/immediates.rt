@@ -1,9 +1,8 @@
-ghost use Rattle.std.specs.Prelude.{◌≡◌};
-ghost use Rattle.processor.specs.View.{Does, Sets};
+ghost use Rattle.processor.specs.View.{Does, SetsQuietly};
 ghost use Rattle.instructions.specs.Instructions.{immediate_tree, immediate_body, long_body};
 
 use bus::meaning::Bus;
-use computing::turns::{rll, rrl, sla, sll, sra, srl};
+use computing::turns::shift;
 use decode::forms::{first_field, second_field, take_apart};
 use decode::operations::{Form, Function, ImmediateOp};
 use fields::parts::joined;
@@ -12,22 +11,22 @@ use operands::addresses::index;
 use operands::functions::{applied, apply};
 use processor::cpu::Core;
 use registers::words::ProgramAddress;
+use shifts::Shift;
 use store::meaning::Store;
 use words::sums::{extended, sum};
 
 /// An operation with an operand of one halfword.
 fn immediate<S: Store, B: Bus>(m: &mut Core<S, B>, operation: ImmediateOp, r1: u8, y: u32)
-    ensures does { Sets S.Store.meaning B.Bus.devices (immediate_tree operation r1 y) m.old m.new }
-    ensures quiet { m.new.bus ≡ m.old.bus }
+    ensures { SetsQuietly S.Store.meaning B.Bus.devices (immediate_tree operation r1 y) m.old m.new }
 {
     match operation {
         ImmediateOp::WithImmediate(function) => apply(m, function, r1, y),
-        ImmediateOp::Rrl => rrl(m, r1, y),
-        ImmediateOp::Rll => rll(m, r1, y),
-        ImmediateOp::Srl => srl(m, r1, y),
-        ImmediateOp::Sll => sll(m, r1, y),
-        ImmediateOp::Sra => sra(m, r1, y),
-        ImmediateOp::Sla => sla(m, r1, y),
+        ImmediateOp::Rrl => shift(m, Shift::RotateRight, r1, y),
+        ImmediateOp::Rll => shift(m, Shift::RotateLeft, r1, y),
+        ImmediateOp::Srl => shift(m, Shift::Right, r1, y),
+        ImmediateOp::Sll => shift(m, Shift::Left, r1, y),
+        ImmediateOp::Sra => shift(m, Shift::RightArithmetic, r1, y),
+        ImmediateOp::Sla => shift(m, Shift::LeftArithmetic, r1, y),
     }
 }
 

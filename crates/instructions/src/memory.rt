@@ -65,7 +65,7 @@ fn svc<S: Store, B: Bus>(m: &mut Core<S, B>, o: Addressed) -> Result<(), Trap>
     ensures { Does S.Store.meaning B.Bus.devices (svc_tree o.r1 o.a.at o.next.at) m.old result m.new }
 {
     m.jump(o.next);
-    Err(Trap::Supervisor(o.r1, o.a.number()))
+    Err(Trap::Supervisor(o.r1, u32::from(o.a)))
 }
 
 /// An operation with an address.
@@ -79,7 +79,7 @@ pub fn memory<S: Store, B: Bus>(
     match operation {
         MemoryOp::Sth => sth(m, o)?,
         MemoryOp::Bal => {
-            m.set_reg(o.r1, o.next.number());
+            m.set_reg(o.r1, u32::from(o.next));
             m.jump(o.a);
         }
         MemoryOp::Btc => branch_true(m, o.r1, o.a, o.next),
@@ -90,7 +90,7 @@ pub fn memory<S: Store, B: Bus>(
         MemoryOp::Lpsw => lpsw(m, o.a)?,
         MemoryOp::Svc => svc(m, o)?,
         MemoryOp::La => {
-            m.set_reg(o.r1, o.a.number());
+            m.set_reg(o.r1, u32::from(o.a));
             m.jump(o.next);
         }
         MemoryOp::Am => am(m, o)?,

@@ -1,10 +1,9 @@
-ghost use Rattle.std.specs.Prelude.{◌≡◌};
 ghost use Rattle.processor.specs.View.{Does, Sets};
 ghost use Rattle.instructions.specs.Instructions.{balr_tree, lpswr_tree, epsr_tree, register_tree, short_tree};
 
 use bus::meaning::Bus;
 use computing::products::{divide, multiply};
-use computing::turns::{sll, srl};
+use computing::turns::shift;
 use decode::operations::{Function, RegisterOp, ShortOp};
 use devices::input::rdr;
 use devices::output::{Output, register_out};
@@ -16,6 +15,7 @@ use operands::forms::Between;
 use operands::functions::applied;
 use processor::cpu::Core;
 use registers::words::ProgramAddress;
+use shifts::Shift;
 use store::meaning::Store;
 use transfers::between::{exbr, exhr, lbr, stbr};
 use words::sums::difference;
@@ -25,7 +25,7 @@ fn balr<S: Store, B: Bus>(m: &mut Core<S, B>, o: Between)
     ensures { Sets S.Store.meaning B.Bus.devices (balr_tree o.r1 o.r2 o.next.at) m.old m.new }
 {
     let target = m.reg(o.r2);
-    m.set_reg(o.r1, o.next.number());
+    m.set_reg(o.r1, u32::from(o.next));
     m.jump(ProgramAddress::new(target));
 }
 
@@ -123,11 +123,11 @@ pub fn short<S: Store, B: Bus>(
     let distance = 2 * n as u16;
     match operation {
         ShortOp::Srls => {
-            srl(m, r1, n as u32);
+            shift(m, Shift::Right, r1, n as u32);
             m.jump(next);
         }
         ShortOp::Slls => {
-            sll(m, r1, n as u32);
+            shift(m, Shift::Left, r1, n as u32);
             m.jump(next);
         }
         ShortOp::Btbs => branch_true(m, r1, own.minus(distance), next),

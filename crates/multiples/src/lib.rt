@@ -1,8 +1,8 @@
 //! The registers from one on to register 15, and the fullwords from an address on.
 #![tactic(auto)]
 
-ghost use Rattle.std.specs.Prelude.{◌≡◌, ◌-◌};
-ghost use Rattle.processor.specs.View.{Does, DoesCalmly};
+ghost use Rattle.std.specs.Prelude.{◌-◌};
+ghost use Rattle.processor.specs.View.{Does, DoesAlone};
 ghost use Rattle.multiples.specs.Multiples.{loads, stores, lm_tree, stm_tree};
 
 use bus::meaning::Bus;
@@ -19,8 +19,7 @@ fn load_registers<S: Store, B: Bus>(
     r1: u8,
     from: ProgramAddress,
 ) -> Result<(), Trap>
-    ensures does { DoesCalmly S.Store.meaning B.Bus.devices (loads (16 - r1) r1 from.at) m.old result m.new }
-    ensures quiet { m.new.bus ≡ m.old.bus }
+    ensures { DoesAlone S.Store.meaning B.Bus.devices (loads (16 - r1) r1 from.at) m.old result m.new }
 {
     let mut a = from;
     for n in r1..16 {
@@ -37,8 +36,7 @@ fn store_registers<S: Store, B: Bus>(
     r1: u8,
     from: ProgramAddress,
 ) -> Result<(), Trap>
-    ensures does { DoesCalmly S.Store.meaning B.Bus.devices (stores (16 - r1) r1 from.at) m.old result m.new }
-    ensures quiet { m.new.bus ≡ m.old.bus }
+    ensures { DoesAlone S.Store.meaning B.Bus.devices (stores (16 - r1) r1 from.at) m.old result m.new }
 {
     let mut a = from;
     for number in r1..16 {

@@ -1,6 +1,6 @@
 ghost use Rattle.std.specs.Prelude.{◌≡◌, false, IfOk};
 ghost use Rattle.decode.specs.Forms.{is_long};
-ghost use Rattle.processor.specs.View.{Does, Gives, DoesCalmly, GivesCalmly, ShowsCalmly};
+ghost use Rattle.processor.specs.View.{DoesAlone, GivesAlone, GivesQuietly, ShowsCalmly};
 ghost use Rattle.operands.specs.Operands.{index_tree, third_tree, next_of, address_tree, following, load_byte, load_full, store_full};
 
 use bus::meaning::Bus;
@@ -24,9 +24,8 @@ pub fn third<S: Store, B: Bus>(
     own: ProgramAddress,
     second: u16,
 ) -> Result<u16, Trap>
-    ensures does { Gives S.Store.meaning B.Bus.devices (third_tree own.at second) m.old result m.new }
+    ensures does { GivesQuietly S.Store.meaning B.Bus.devices (third_tree own.at second) m.old result m.new }
     ensures absent { IfOk result (λ x. is_long second ≡ false → x ≡ 0) }
-    ensures quiet { m.new.bus ≡ m.old.bus }
 {
     if is_long(second) {
         m.fetch(own.plus(4))
@@ -65,7 +64,7 @@ pub fn address<S: Store, B: Bus>(
         },
     );
     ProgramAddress::new(address_of(
-        own.number(),
+        u32::from(own),
         parts.second,
         parts.third,
         first_index,
@@ -84,8 +83,7 @@ pub fn following(number: u8, by: u8) -> u8
 /// Loads a byte: one read, of its halfword.
 #[tactic(auto, unfolding(crate::specs::Operands::load_byte))]
 pub fn load_byte<S: Store, B: Bus>(m: &mut Core<S, B>, a: ProgramAddress) -> Result<u8, Trap>
-    ensures does { GivesCalmly S.Store.meaning B.Bus.devices (load_byte a.at) m.old result m.new }
-    ensures quiet { m.new.bus ≡ m.old.bus }
+    ensures { GivesAlone S.Store.meaning B.Bus.devices (load_byte a.at) m.old result m.new }
 {
     let half = m.load(a)?;
     Ok(byte_at(a.is_odd(), half))
@@ -94,8 +92,7 @@ pub fn load_byte<S: Store, B: Bus>(m: &mut Core<S, B>, a: ProgramAddress) -> Res
 /// Loads a fullword, the high half first.
 #[tactic(auto, unfolding(crate::specs::Operands::load_full))]
 pub fn load_full<S: Store, B: Bus>(m: &mut Core<S, B>, a: ProgramAddress) -> Result<u32, Trap>
-    ensures does { GivesCalmly S.Store.meaning B.Bus.devices (load_full a.at) m.old result m.new }
-    ensures quiet { m.new.bus ≡ m.old.bus }
+    ensures { GivesAlone S.Store.meaning B.Bus.devices (load_full a.at) m.old result m.new }
 {
     let high = m.load(a)?;
     let low = m.load(a.plus(2))?;
@@ -109,8 +106,7 @@ pub fn store_full<S: Store, B: Bus>(
     a: ProgramAddress,
     value: u32,
 ) -> Result<(), Trap>
-    ensures does { DoesCalmly S.Store.meaning B.Bus.devices (store_full a.at value) m.old result m.new }
-    ensures quiet { m.new.bus ≡ m.old.bus }
+    ensures { DoesAlone S.Store.meaning B.Bus.devices (store_full a.at value) m.old result m.new }
 {
     m.store(a, high_half(value))?;
     m.store(a.plus(2), low_half(value))?;

@@ -1,5 +1,4 @@
-ghost use Rattle.std.specs.Prelude.{◌≡◌};
-ghost use Rattle.processor.specs.View.{Sets};
+ghost use Rattle.processor.specs.View.{SetsQuietly};
 ghost use Rattle.operands.specs.Operands.{branch_true, branch_false};
 
 use bus::meaning::Bus;
@@ -14,8 +13,7 @@ pub fn branch_true<S: Store, B: Bus>(
     target: ProgramAddress,
     next: ProgramAddress,
 )
-    ensures does { Sets S.Store.meaning B.Bus.devices (branch_true mask target.at next.at) m.old m.new }
-    ensures quiet { m.new.bus ≡ m.old.bus }
+    ensures { SetsQuietly S.Store.meaning B.Bus.devices (branch_true mask target.at next.at) m.old m.new }
 {
     if m.code() & mask as u32 == 0 {
         m.jump(next)
@@ -31,8 +29,7 @@ pub fn branch_false<S: Store, B: Bus>(
     target: ProgramAddress,
     next: ProgramAddress,
 )
-    ensures does { Sets S.Store.meaning B.Bus.devices (branch_false mask target.at next.at) m.old m.new }
-    ensures quiet { m.new.bus ≡ m.old.bus }
+    ensures { SetsQuietly S.Store.meaning B.Bus.devices (branch_false mask target.at next.at) m.old m.new }
 {
     branch_true(m, mask, next, target)
 }

@@ -1,5 +1,4 @@
-ghost use Rattle.std.specs.Prelude.{◌≡◌};
-ghost use Rattle.processor.specs.View.{Sets};
+ghost use Rattle.processor.specs.View.{SetsQuietly};
 ghost use Rattle.operands.specs.Operands.{result_tree, apply_tree, applied_tree};
 
 use bus::meaning::Bus;
@@ -12,8 +11,7 @@ use words::sums::{compare_code, compare_logical_code, difference, difference_cod
 
 /// A result that goes to a register, with its marks.
 pub fn result<S: Store, B: Bus>(m: &mut Core<S, B>, r1: u8, value: u32)
-    ensures does { Sets S.Store.meaning B.Bus.devices (result_tree r1 value) m.old m.new }
-    ensures quiet { m.new.bus ≡ m.old.bus }
+    ensures { SetsQuietly S.Store.meaning B.Bus.devices (result_tree r1 value) m.old m.new }
 {
     m.set_reg(r1, value);
     m.set_code(marks(value).bits());
@@ -21,8 +19,7 @@ pub fn result<S: Store, B: Bus>(m: &mut Core<S, B>, r1: u8, value: u32)
 
 /// Applies a function of a family to a register and an operand.
 pub fn apply<S: Store, B: Bus>(m: &mut Core<S, B>, function: Function, r1: u8, y: u32)
-    ensures does { Sets S.Store.meaning B.Bus.devices (apply_tree function r1 y) m.old m.new }
-    ensures quiet { m.new.bus ≡ m.old.bus }
+    ensures { SetsQuietly S.Store.meaning B.Bus.devices (apply_tree function r1 y) m.old m.new }
 {
     let x = m.reg(r1);
     match function {
@@ -52,8 +49,7 @@ pub fn applied<S: Store, B: Bus>(
     y: u32,
     next: ProgramAddress,
 )
-    ensures does { Sets S.Store.meaning B.Bus.devices (applied_tree function r1 y next.at) m.old m.new }
-    ensures quiet { m.new.bus ≡ m.old.bus }
+    ensures { SetsQuietly S.Store.meaning B.Bus.devices (applied_tree function r1 y next.at) m.old m.new }
 {
     apply(m, function, r1, y);
     m.jump(next);

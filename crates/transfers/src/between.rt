@@ -1,5 +1,4 @@
-ghost use Rattle.std.specs.Prelude.{◌≡◌};
-ghost use Rattle.processor.specs.View.{Sets};
+ghost use Rattle.processor.specs.View.{SetsQuietly};
 ghost use Rattle.transfers.specs.Transfers.{exhr_tree, exbr_tree, lbr_tree, stbr_tree};
 
 use bus::meaning::Bus;
@@ -9,8 +8,7 @@ use store::meaning::Store;
 
 /// Moves a register with its halves exchanged.
 pub fn exhr<S: Store, B: Bus>(m: &mut Core<S, B>, r1: u8, r2: u8)
-    ensures does { Sets S.Store.meaning B.Bus.devices (exhr_tree r1 r2) m.old m.new }
-    ensures quiet { m.new.bus ≡ m.old.bus }
+    ensures { SetsQuietly S.Store.meaning B.Bus.devices (exhr_tree r1 r2) m.old m.new }
 {
     let value = m.reg(r2);
     m.set_reg(r1, halves_exchanged(value));
@@ -18,8 +16,7 @@ pub fn exhr<S: Store, B: Bus>(m: &mut Core<S, B>, r1: u8, r2: u8)
 
 /// Moves the low half of a register with its bytes exchanged.
 pub fn exbr<S: Store, B: Bus>(m: &mut Core<S, B>, r1: u8, r2: u8)
-    ensures does { Sets S.Store.meaning B.Bus.devices (exbr_tree r1 r2) m.old m.new }
-    ensures quiet { m.new.bus ≡ m.old.bus }
+    ensures { SetsQuietly S.Store.meaning B.Bus.devices (exbr_tree r1 r2) m.old m.new }
 {
     let x = m.reg(r1);
     let y = m.reg(r2);
@@ -28,8 +25,7 @@ pub fn exbr<S: Store, B: Bus>(m: &mut Core<S, B>, r1: u8, r2: u8)
 
 /// Moves the low byte of the second register to the first, which has no other.
 pub fn lbr<S: Store, B: Bus>(m: &mut Core<S, B>, r1: u8, r2: u8)
-    ensures does { Sets S.Store.meaning B.Bus.devices (lbr_tree r1 r2) m.old m.new }
-    ensures quiet { m.new.bus ≡ m.old.bus }
+    ensures { SetsQuietly S.Store.meaning B.Bus.devices (lbr_tree r1 r2) m.old m.new }
 {
     let value = m.reg(r2);
     m.set_reg(r1, low_byte(value) as u32);
@@ -37,8 +33,7 @@ pub fn lbr<S: Store, B: Bus>(m: &mut Core<S, B>, r1: u8, r2: u8)
 
 /// Moves the low byte of the first register to the second, which keeps its others.
 pub fn stbr<S: Store, B: Bus>(m: &mut Core<S, B>, r1: u8, r2: u8)
-    ensures does { Sets S.Store.meaning B.Bus.devices (stbr_tree r1 r2) m.old m.new }
-    ensures quiet { m.new.bus ≡ m.old.bus }
+    ensures { SetsQuietly S.Store.meaning B.Bus.devices (stbr_tree r1 r2) m.old m.new }
 {
     let x = m.reg(r1);
     let y = m.reg(r2);

@@ -35,7 +35,7 @@ fn changed(change: BitChange, n: u32, half: u16) -> u16
 fn bit_place(a: ProgramAddress, n: u32) -> ProgramAddress
     ensures { result.at ≡ bit_place a.at n }
 {
-    ProgramAddress::new(a.number() + bit_offset(n)).to_half()
+    ProgramAddress::new(u32::from(a) + bit_offset(n)).to_half()
 }
 
 /// Tests a bit.

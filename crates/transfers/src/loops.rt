@@ -1,6 +1,6 @@
-ghost use Rattle.std.specs.Prelude.{◌≡◌};
-ghost use Rattle.model.specs.Effects.{went, as_number, run};
-ghost use Rattle.processor.specs.View.{state_of, Sets};
+ghost use Rattle.std.specs.Prelude.{Ok};
+ghost use Rattle.model.specs.Effects.{as_number};
+ghost use Rattle.processor.specs.View.{GivesQuietly, SetsQuietly};
 ghost use Rattle.transfers.specs.Transfers.{raise_tree, bxh_tree, bxle_tree};
 
 use bus::meaning::Bus;
@@ -12,8 +12,7 @@ use words::sums::sum;
 
 /// Raises an index register, and says whether it is then above its limit.
 fn raised<S: Store, B: Bus>(m: &mut Core<S, B>, r1: u8) -> bool
-    ensures does { run (B.Bus.devices m.new.bus) (raise_tree r1) (state_of S.Store.meaning B.Bus.devices m.old) ≡ went (as_number result) (state_of S.Store.meaning B.Bus.devices m.new) }
-    ensures quiet { m.new.bus ≡ m.old.bus }
+    ensures { GivesQuietly S.Store.meaning B.Bus.devices (raise_tree r1) m.old (Ok (as_number result)) m.new }
 {
     let x = m.reg(r1);
     let y = m.reg(following(r1, 1));
@@ -25,8 +24,7 @@ fn raised<S: Store, B: Bus>(m: &mut Core<S, B>, r1: u8) -> bool
 
 /// Goes to the target if the raised index is above its limit, else on.
 pub fn bxh<S: Store, B: Bus>(m: &mut Core<S, B>, o: Addressed)
-    ensures does { Sets S.Store.meaning B.Bus.devices (bxh_tree o.r1 o.a.at o.next.at) m.old m.new }
-    ensures quiet { m.new.bus ≡ m.old.bus }
+    ensures { SetsQuietly S.Store.meaning B.Bus.devices (bxh_tree o.r1 o.a.at o.next.at) m.old m.new }
 {
     if raised(m, o.r1) {
         m.jump(o.a)
@@ -37,8 +35,7 @@ pub fn bxh<S: Store, B: Bus>(m: &mut Core<S, B>, o: Addressed)
 
 /// Goes to the target if the raised index is not above its limit, else on.
 pub fn bxle<S: Store, B: Bus>(m: &mut Core<S, B>, o: Addressed)
-    ensures does { Sets S.Store.meaning B.Bus.devices (bxle_tree o.r1 o.a.at o.next.at) m.old m.new }
-    ensures quiet { m.new.bus ≡ m.old.bus }
+    ensures { SetsQuietly S.Store.meaning B.Bus.devices (bxle_tree o.r1 o.a.at o.next.at) m.old m.new }
 {
     bxh(
         m,
