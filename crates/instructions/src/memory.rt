@@ -9,7 +9,7 @@ use devices::input::rd;
 use devices::output::{Output, out};
 use devices::sensing::ss;
 use model::Trap;
-use multiples::{lm, stm};
+use multiples::{Way, multiple};
 use operands::addresses::{address, load_full, next, third};
 use operands::branches::{branch_false, branch_true};
 use operands::forms::Addressed;
@@ -104,8 +104,8 @@ pub fn memory<S: Store, B: Bus>(
         MemoryOp::Cbt => change_bit(m, BitChange::Complement, o)?,
         MemoryOp::Bxh => bxh(m, o),
         MemoryOp::Bxle => bxle(m, o),
-        MemoryOp::Stm => stm(m, o)?,
-        MemoryOp::Lm => lm(m, o)?,
+        MemoryOp::Stm => multiple(m, Way::Store, o)?,
+        MemoryOp::Lm => multiple(m, Way::Load, o)?,
         MemoryOp::Stb => stb(m, o)?,
         MemoryOp::Lb => lb(m, o)?,
         MemoryOp::Clb => clb(m, o)?,
