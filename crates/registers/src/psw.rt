@@ -155,7 +155,6 @@ impl ProgramAddress {
         self.at % 2 == 1
     }
 
-    // Three sizes of one form: with the size as a parameter each caller would write 2, 4 or 8 for the unit that it means.
     /// The multiple of a size at it or below.
     fn down_to(self, size: u32) -> ProgramAddress
         requires { 0 < size }
