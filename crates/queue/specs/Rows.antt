@@ -1,5 +1,6 @@
 use Rattle.std.specs.Prelude.{◌≡◌, ℕ, ◌<◌, min, List, ◌++◌, length, take, drop}
 use Rattle.queue.specs.declared.Queue.{Queue}
+use Rattle.queue.specs.declared.Iter.{Iter}
 
 -- n elements of the ring xs, from place i on, round its end.
 abbrev pub ring : {X : Type 0} → List X → ℕ → ℕ → List X
@@ -25,3 +26,7 @@ HasRoom q = length (queued q) < capacity q
 pub record SameSlots {X : Type 0} (old new : Queue X) : Type 0 where
   pub loan : new.slots.ghost_name ≡ old.slots.ghost_name
   pub size : capacity new ≡ capacity old
+
+-- The items that an iterator over a queue has still to give, in this order.
+abbrev pub unread : {X : Type 0} → Iter X → List X
+unread it = it.first.now ++ it.second.now

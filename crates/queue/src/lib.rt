@@ -2,7 +2,8 @@
 #![tactic(auto)]
 
 ghost use Rattle.std.specs.Prelude.{◌≡◌, ◌+◌, ◌-◌, ◌<◌, ◌≤◌, ◌↔◌, min, ◌⊎◌, [], ◌∷◌, ◌++◌, length, drop, MatchOption, IsOk, IfErr, OnOk, ◌==◌, nat_le, slice_index_or};
-ghost use Rattle.queue.specs.Rows.{queued, capacity, HasRoom, SameSlots};
+ghost use Rattle.std.specs.Iterator.{YieldsFirstRef, item_count};
+ghost use Rattle.queue.specs.Rows.{queued, capacity, unread, HasRoom, SameSlots};
 
 /// A queue over lent slots, the oldest item at `head`.
 #[derive(Drop)]
@@ -10,13 +11,6 @@ pub struct Queue<'a, X> {
     slots: &'a mut [X],
     head: usize,
     count: usize,
-}
-
-/// The smaller of two numbers.
-fn least(a: usize, b: usize) -> usize
-    ensures { result ≡ min a b }
-{
-    if a < b { a } else { b }
 }
 
 /// The place in a ring of `size` slots that lies `index` places after `head`.
@@ -43,6 +37,7 @@ fn item_at<X: Copy>(slots: &[X], at: usize) -> X
 
 impl<'a, X: Copy> Queue<'a, X> {
     /// An empty queue over the slots.
+    #[tactic(auto, unfolding(crate::specs::Rows::held))]
     pub fn new(slots: &'a mut [X]) -> Queue<'a, X>
         ensures empty { queued result ≡ [] }
         ensures room { capacity result ≡ length slots.old }
@@ -56,10 +51,18 @@ impl<'a, X: Copy> Queue<'a, X> {
     }
 
     /// How many items wait.
+    #[tactic(auto, using(crate::proofs::Rings::held_length))]
     pub fn len(&self) -> usize
         ensures { result ≡ length (queued self.now) }
     {
-        least(self.count, self.slots.len())
+        self.count.min(self.slots.len())
+    }
+
+    /// The place of the oldest item; where that is the number of slots, it stands at place 0.
+    fn start(&self) -> usize
+        ensures { result ≡ min self.now.head (capacity self.now) }
+    {
+        self.head.min(self.slots.len())
     }
 
     /// How many items can wait.
@@ -84,17 +87,18 @@ impl<'a, X: Copy> Queue<'a, X> {
     }
 
     /// Adds an item behind the others. A full queue stays as it is, and the item comes back.
+    #[tactic(auto, using(crate::proofs::Rings::held_length))]
     pub fn push(&mut self, item: X) -> Result<(), X>
         ensures fits { IsOk result ↔ HasRoom self.old }
         ensures refused { IfErr result (λ x. (x ≡ item) × (self.new ≡ self.old)) }
         ensures pushed { OnOk result (queued self.new ≡ queued self.old ++ item ∷ []) }
         ensures same { SameSlots self.old self.new }
     {
-        let n = least(self.count, self.slots.len());
+        let n = self.len();
         if n >= self.slots.len() {
             return Err(item);
         }
-        let i = least(self.head, self.slots.len());
+        let i = self.start();
         let at = place(i, n, self.slots.len());
         self.slots[at] = item;
         self.head = i;
@@ -103,15 +107,16 @@ impl<'a, X: Copy> Queue<'a, X> {
     }
 
     /// Takes the oldest item. An empty queue stays as it is.
+    #[tactic(auto, using(crate::proofs::Rings::held_length))]
     pub fn pop(&mut self) -> Option<X>
         ensures popped { MatchOption result ((queued self.old ≡ []) × (self.new ≡ self.old)) (λ x. queued self.old ≡ x ∷ queued self.new) }
         ensures same { SameSlots self.old self.new }
     {
-        let n = least(self.count, self.slots.len());
+        let n = self.len();
         if n == 0 {
             return None;
         }
-        let i = least(self.head, self.slots.len());
+        let i = self.start();
         let at = place(i, 0, self.slots.len());
         let item = self.slots[at];
         self.head = at + 1;
@@ -120,21 +125,73 @@ impl<'a, X: Copy> Queue<'a, X> {
     }
 
     /// The item that has `index` older ones before it.
+    #[tactic(auto, using(crate::proofs::Rings::held_length))]
     pub fn get(&self, index: usize) -> Option<X>
         ensures { MatchOption result (length (queued self.now) ≤ index) (λ x. (index < length (queued self.now)) × (x ≡ slice_index_or (queued self.now) index x)) }
     {
-        let n = least(self.count, self.slots.len());
+        let n = self.len();
         if index >= n {
             return None;
         }
-        let i = least(self.head, self.slots.len());
+        let i = self.start();
         Some(item_at(self.slots, place(i, index, self.slots.len())))
     }
 
+    /// The items, the oldest first.
+    pub fn iter(&self) -> Iter<'_, X>
+        ensures { unread result ≡ queued self.now }
+    {
+        let n = self.len();
+        let (wrapped, straight) = self.slots.split_at(self.start());
+        let k = n.min(straight.len());
+        Iter {
+            first: &straight[..k],
+            second: &wrapped[..n - k],
+        }
+    }
+
     /// The oldest item.
+    #[tactic(auto, using(crate::proofs::Rings::held_length))]
     pub fn front(&self) -> Option<X>
         ensures { MatchOption result (queued self.now ≡ []) (λ x. queued self.now ≡ x ∷ drop 1 (queued self.now)) }
     {
         self.get(0)
+    }
+}
+
+impl<'b, 'a, X: Copy> IntoIterator for &'b Queue<'a, X> {
+    type Item = &'b X;
+
+    type IntoIter = Iter<'b, X>;
+
+    ghost into_iter_gives = { λ q it. unread it ≡ queued q.now };
+
+    fn into_iter(self) -> Iter<'b, X> {
+        self.iter()
+    }
+}
+
+/// The items of a queue that are still to come, the oldest first: those of one part of its slots, then those of another.
+#[derive(Drop)]
+pub struct Iter<'a, X> {
+    first: &'a [X],
+    second: &'a [X],
+}
+
+impl<'a, X> Iterator for Iter<'a, X> {
+    type Item = &'a X;
+
+    ghost next_gives = { YieldsFirstRef unread };
+
+    ghost remaining = { item_count unread };
+
+    fn next(&mut self) -> Option<&'a X> {
+        if let Some((item, others)) = self.first.split_first() {
+            self.first = others;
+            return Some(item);
+        }
+        let (item, others) = self.second.split_first()?;
+        self.second = others;
+        Some(item)
     }
 }
