@@ -1,5 +1,6 @@
-ghost use Rattle.std.specs.Prelude.{◌≡◌, ℕ, true};
-ghost use Rattle.model.specs.Buses.{Bus as Meaning, changed, was_read, was_written, was_commanded, lowest};
+ghost use Rattle.std.specs.Prelude.{◌≡◌, ◌≤◌, true};
+ghost use Rattle.bus.specs.Devices.{Quiet, Reads, Writes, Commands};
+ghost use Rattle.model.specs.Buses.{Bus as Meaning, lowest};
 
 /// The devices of a machine. The meaning of a bus is that of each device, 1 to 255; an implementation shows exactly this.
 /// Questions change nothing. Only a device that answers is read, written or commanded.
@@ -26,7 +27,15 @@ pub trait Bus {
     fn requesting(&self) -> Option<u8>
         ensures { result ≡ lowest (devices self.now) }
     {
-        for device in 1..=255u8 {
+        self.requesting_from(1)
+    }
+
+    /// The lowest device that requests an interrupt, or none, where no device before `start` does.
+    fn requesting_from(&self, start: u8) -> Option<u8>
+        requires { (1 ≤ start) × Quiet (devices self.now) start }
+        ensures { result ≡ lowest (devices self.now) }
+    {
+        for device in start..=255 {
             if self.requests(device) {
                 return Some(device);
             }
@@ -38,15 +47,15 @@ pub trait Bus {
     fn read(&mut self, device: u8) -> u8
         requires { (devices self.old device).answers ≡ true }
         ensures value { result ≡ (devices self.old device).offer }
-        ensures counted { devices self.new ≡ changed (devices self.old) device (was_read (devices self.new device) (devices self.old device)) };
+        ensures counted { Reads device (devices self.old) (devices self.new) };
 
     /// Writes a byte to a device.
     fn write(&mut self, device: u8, byte: u8)
         requires { (devices self.old device).answers ≡ true }
-        ensures { devices self.new ≡ changed (devices self.old) device (was_written byte (devices self.new device) (devices self.old device)) };
+        ensures { Writes device byte (devices self.old) (devices self.new) };
 
     /// Gives a device a command.
     fn command(&mut self, device: u8, byte: u8)
         requires { (devices self.old device).answers ≡ true }
-        ensures { devices self.new ≡ changed (devices self.old) device (was_commanded byte (devices self.new device) (devices self.old device)) };
+        ensures { Commands device byte (devices self.old) (devices self.new) };
 }

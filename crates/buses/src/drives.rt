@@ -1,6 +1,7 @@
-ghost use Rattle.std.specs.Prelude.{◌≡◌, ◌-◌, ◌/◌, ◌<◌, true, replicate};
+ghost use Rattle.std.specs.Prelude.{◌≡◌, ◌-◌, ◌/◌, true, replicate};
+ghost use Rattle.std.specs.Bool.{then_some};
 ghost use Rattle.buses.specs.Devices.{new_drive, drive_read, drive_written, drive_commanded, is_drive, drive_bus, position_of, drive_changed};
-ghost use Rattle.model.specs.Buses.{changed, was_read, was_written, was_commanded};
+ghost use Rattle.bus.specs.Devices.{Reads, Writes, Commands};
 
 use crate::usage::Usage;
 use bus::meaning::Bus;
@@ -46,14 +47,9 @@ impl Drive {
         ensures { self.new ≡ drive_written byte self.old }
     {
         self.usage.write(byte);
-        match self.high {
-            None => {
-                self.high = Some(byte);
-            }
-            Some(high) => {
-                self.position = high as u16 * 256 + byte as u16;
-                self.high = None;
-            }
+        match self.high.take() {
+            None => self.high = Some(byte),
+            Some(high) => self.position = u16::from_be_bytes([high, byte]),
         }
     }
 
@@ -64,18 +60,12 @@ impl Drive {
     }
 }
 
-fn is_drive(device: u8) -> bool
-    ensures { result ≡ is_drive device }
+/// Which of the drives a device is, if it is one.
+fn place(device: u8) -> Option<usize>
+    ensures { result ≡ then_some (is_drive device) (device - 16) }
 {
-    FIRST <= device && device < FIRST + COUNT as u8
-}
-
-/// Which of the drives a device is.
-fn place(device: u8) -> usize
-    requires { is_drive device ≡ true }
-    ensures { (result ≡ device - 16) × (result < 8) }
-{
-    (device - FIRST) as usize
+    let place = usize::from(device.checked_sub(FIRST)?);
+    (place < COUNT).then_some(place)
 }
 
 /// The eight drives, devices 16 to 23.
@@ -98,11 +88,7 @@ impl Drives {
     pub fn position(&self, device: u8) -> Option<u16>
         ensures { result ≡ position_of self.now.drives device }
     {
-        if is_drive(device) {
-            Some(self.drives[place(device)].position)
-        } else {
-            None
-        }
+        place(device).map(|at| self.drives[at].position)
     }
 }
 
@@ -110,7 +96,7 @@ impl Bus for Drives {
     ghost devices = { λ d. drive_bus d.drives };
 
     fn answers(&self, device: u8) -> bool {
-        is_drive(device)
+        place(device).is_some()
     }
 
     fn status(&self, _device: u8) -> u8 {
@@ -118,11 +104,7 @@ impl Bus for Drives {
     }
 
     fn offer(&self, device: u8) -> u8 {
-        if is_drive(device) {
-            self.drives[place(device)].offer()
-        } else {
-            0
-        }
+        place(device).map_or(0, |at| self.drives[at].offer())
     }
 
     fn requests(&self, _device: u8) -> bool {
@@ -137,28 +119,33 @@ impl Bus for Drives {
     fn read(&mut self, device: u8) -> u8
         requires { (drive_bus self.old.drives device).answers ≡ true }
         ensures value { result ≡ (drive_bus self.old.drives device).offer }
-        ensures counted { drive_bus self.new.drives ≡ changed (drive_bus self.old.drives) device (was_read (drive_bus self.new.drives device) (drive_bus self.old.drives device)) }
+        ensures counted { Reads device (drive_bus self.old.drives) (drive_bus self.new.drives) }
         ensures drives { self.new.drives ≡ drive_changed drive_read self.old.drives device }
     {
-        self.drives[place(device)].read();
-        self.drives[place(device)].offer()
+        let Some(at) = place(device) else { return 0 };
+        self.drives[at].read();
+        self.drives[at].offer()
     }
 
     /// Two bytes set the position, the high one first.
     fn write(&mut self, device: u8, byte: u8)
         requires { (drive_bus self.old.drives device).answers ≡ true }
-        ensures counted { drive_bus self.new.drives ≡ changed (drive_bus self.old.drives) device (was_written byte (drive_bus self.new.drives device) (drive_bus self.old.drives device)) }
+        ensures counted { Writes device byte (drive_bus self.old.drives) (drive_bus self.new.drives) }
         ensures drives { self.new.drives ≡ drive_changed (drive_written byte) self.old.drives device }
     {
-        self.drives[place(device)].write(byte);
+        if let Some(at) = place(device) {
+            self.drives[at].write(byte);
+        }
     }
 
     /// A pair half sent stays.
     fn command(&mut self, device: u8, byte: u8)
         requires { (drive_bus self.old.drives device).answers ≡ true }
-        ensures counted { drive_bus self.new.drives ≡ changed (drive_bus self.old.drives) device (was_commanded byte (drive_bus self.new.drives device) (drive_bus self.old.drives device)) }
+        ensures counted { Commands device byte (drive_bus self.old.drives) (drive_bus self.new.drives) }
         ensures drives { self.new.drives ≡ drive_changed (drive_commanded byte) self.old.drives device }
     {
-        self.drives[place(device)].command(byte);
+        if let Some(at) = place(device) {
+            self.drives[at].command(byte);
+        }
     }
 }

@@ -48,10 +48,7 @@ impl<'a> Teletype<'a> {
         ensures counted { self.new.usage ≡ once_read self.old.usage }
     {
         self.usage.read();
-        match self.waiting.pop() {
-            Some(byte) => byte,
-            None => 0,
-        }
+        self.waiting.pop().unwrap_or(0)
     }
 }
 
@@ -74,10 +71,7 @@ impl Bus for Teletype<'_> {
         if device != NUMBER {
             return 0;
         }
-        match self.waiting.front() {
-            Some(byte) => byte,
-            None => 0,
-        }
+        self.waiting.front().unwrap_or(0)
     }
 
     fn requests(&self, device: u8) -> bool {
@@ -85,11 +79,7 @@ impl Bus for Teletype<'_> {
     }
 
     fn requesting(&self) -> Option<u8> {
-        if self.requests(NUMBER) {
-            Some(NUMBER)
-        } else {
-            None
-        }
+        self.requests(NUMBER).then_some(NUMBER)
     }
 
     fn read(&mut self, _device: u8) -> u8 {

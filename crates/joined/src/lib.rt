@@ -3,7 +3,7 @@
 
 ghost use Rattle.std.specs.Prelude.{◌≡◌, true, false};
 ghost use Rattle.joined.specs.Parts.{joined, lower_of};
-ghost use Rattle.model.specs.Buses.{changed, was_read, was_written, was_commanded};
+ghost use Rattle.bus.specs.Devices.{Reads, Writes, Commands};
 
 use bus::meaning::Bus;
 
@@ -44,6 +44,7 @@ fn lower(first: Option<u8>, second: Option<u8>) -> Option<u8>
     }
 }
 
+// Each method asks once which bus has the device: the two are of different types, so no one reference stands for either.
 impl<A: Bus, B: Bus> Bus for JoinedBus<A, B> {
     ghost devices = { λ j. joined (A.Bus.devices j.first) (B.Bus.devices j.second) };
 
@@ -76,22 +77,15 @@ impl<A: Bus, B: Bus> Bus for JoinedBus<A, B> {
     }
 
     fn requesting(&self) -> Option<u8> {
-        let Some(start) = lower(self.first.requesting(), self.second.requesting()) else {
-            return None;
-        };
-        for device in start..=255u8 {
-            if self.requests(device) {
-                return Some(device);
-            }
-        }
-        None
+        let start = lower(self.first.requesting(), self.second.requesting())?;
+        self.requesting_from(start)
     }
 
     /// The bus that does not have the device stays as it is.
     fn read(&mut self, device: u8) -> u8
-        requires { (joined (A.Bus.devices self.old.first) (B.Bus.devices self.old.second) device).answers ≡ true }
-        ensures value { result ≡ (joined (A.Bus.devices self.old.first) (B.Bus.devices self.old.second) device).offer }
-        ensures counted { joined (A.Bus.devices self.new.first) (B.Bus.devices self.new.second) ≡ changed (joined (A.Bus.devices self.old.first) (B.Bus.devices self.old.second)) device (was_read (joined (A.Bus.devices self.new.first) (B.Bus.devices self.new.second) device) (joined (A.Bus.devices self.old.first) (B.Bus.devices self.old.second) device)) }
+        requires { (⟦<JoinedBus<A, B> as Bus>⟧.devices self.old device).answers ≡ true }
+        ensures value { result ≡ (⟦<JoinedBus<A, B> as Bus>⟧.devices self.old device).offer }
+        ensures counted { Reads device (⟦<JoinedBus<A, B> as Bus>⟧.devices self.old) (⟦<JoinedBus<A, B> as Bus>⟧.devices self.new) }
         ensures before { (A.Bus.devices self.old.first device).answers ≡ false → self.new.first ≡ self.old.first }
         ensures after { (A.Bus.devices self.old.first device).answers ≡ true → self.new.second ≡ self.old.second }
     {
@@ -104,8 +98,8 @@ impl<A: Bus, B: Bus> Bus for JoinedBus<A, B> {
 
     /// The bus that does not have the device stays as it is.
     fn write(&mut self, device: u8, byte: u8)
-        requires { (joined (A.Bus.devices self.old.first) (B.Bus.devices self.old.second) device).answers ≡ true }
-        ensures counted { joined (A.Bus.devices self.new.first) (B.Bus.devices self.new.second) ≡ changed (joined (A.Bus.devices self.old.first) (B.Bus.devices self.old.second)) device (was_written byte (joined (A.Bus.devices self.new.first) (B.Bus.devices self.new.second) device) (joined (A.Bus.devices self.old.first) (B.Bus.devices self.old.second) device)) }
+        requires { (⟦<JoinedBus<A, B> as Bus>⟧.devices self.old device).answers ≡ true }
+        ensures counted { Writes device byte (⟦<JoinedBus<A, B> as Bus>⟧.devices self.old) (⟦<JoinedBus<A, B> as Bus>⟧.devices self.new) }
         ensures before { (A.Bus.devices self.old.first device).answers ≡ false → self.new.first ≡ self.old.first }
         ensures after { (A.Bus.devices self.old.first device).answers ≡ true → self.new.second ≡ self.old.second }
     {
@@ -118,8 +112,8 @@ impl<A: Bus, B: Bus> Bus for JoinedBus<A, B> {
 
     /// The bus that does not have the device stays as it is.
     fn command(&mut self, device: u8, byte: u8)
-        requires { (joined (A.Bus.devices self.old.first) (B.Bus.devices self.old.second) device).answers ≡ true }
-        ensures counted { joined (A.Bus.devices self.new.first) (B.Bus.devices self.new.second) ≡ changed (joined (A.Bus.devices self.old.first) (B.Bus.devices self.old.second)) device (was_commanded byte (joined (A.Bus.devices self.new.first) (B.Bus.devices self.new.second) device) (joined (A.Bus.devices self.old.first) (B.Bus.devices self.old.second) device)) }
+        requires { (⟦<JoinedBus<A, B> as Bus>⟧.devices self.old device).answers ≡ true }
+        ensures counted { Commands device byte (⟦<JoinedBus<A, B> as Bus>⟧.devices self.old) (⟦<JoinedBus<A, B> as Bus>⟧.devices self.new) }
         ensures before { (A.Bus.devices self.old.first device).answers ≡ false → self.new.first ≡ self.old.first }
         ensures after { (A.Bus.devices self.old.first device).answers ≡ true → self.new.second ≡ self.old.second }
     {

@@ -1,21 +1,12 @@
-use Rattle.std.proofs.Common.{Some, None, sym, rules}
-use Rattle.bus.proofs.Searches.{lowest_found, lowest_missing, lowest_none_last}
+use Rattle.std.proofs.Common.{Some, None, sym, ◌∙◌}
+use Rattle.bus.proofs.Searches.{is_lowest}
 use Rattle.joined.proofs.Joins.{joined_quiet}
 use Rattle.joined.proofs.JoinedBusBus.requesting.Goals as goal
 
-pub returns-in_default : goal.returns-in_default
-returns-in_default g c =
-    sym (lowest_missing _ (joined_quiet _ _ c.requesting.result c.requesting-2.result None c.requesting.ensures c.requesting-2.ensures c.in_default.ensures))
+pub returns-in_err-start : goal.returns-in_err-start
+returns-in_err-start g c =
+    let none = is_lowest _ None (joined_quiet _ _ _ _ None c.requesting.ensures c.requesting-2.ensures (sym c.in_err-start.was ∙ c.lower.ensures)) in
+    c.from_residual.ensures ∙ none
 
-pub loop-device-init : goal.loop-device-init
-loop-device-init g c =
-    let f =
-    joined_quiet _ _ c.requesting.result c.requesting-2.result (Some c.in-Some.start) c.requesting.ensures c.requesting-2.ensures c.in-Some.ensures in
-    (f.0, f.2)
-
-pub returns-then-requests : goal.returns-then-requests
-returns-then-requests g c =
-    sym (lowest_found _ c.loop-device.device (search rules) (search rules) c.loop-device.invariant.1 (sym c.if-requests.ensures))
-
-pub returns-else-requests : goal.returns-else-requests
-returns-else-requests g c = sym (lowest_none_last _ c.loop-device.device (search rules) c.loop-device.invariant.1 c.if-requests.ensures)
+pub requesting_from-requires : goal.requesting_from-requires
+requesting_from-requires g c = joined_quiet _ _ _ _ (Some c.in_ok-start.start) c.requesting.ensures c.requesting-2.ensures (sym c.in_ok-start.was ∙ c.lower.ensures)

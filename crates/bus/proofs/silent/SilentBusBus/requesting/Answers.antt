@@ -1,7 +1,6 @@
-use Rattle.std.proofs.Common.{sym, refl}
-use Rattle.bus.specs.Devices.{silent}
-use Rattle.bus.proofs.Searches.{lowest_missing}
+use Rattle.std.proofs.Common.{refl}
+use Rattle.bus.proofs.Searches.{is_lowest}
 use Rattle.bus.proofs.silent.SilentBusBus.requesting.Goals as goal
 
 pub returns : goal.returns
-returns c = sym (lowest_missing silent (λ j l m. refl))
+returns c = is_lowest _ _ (λ j l m. refl)

@@ -1,7 +1,7 @@
-use Rattle.std.proofs.Common.{sym, rules}
-use Rattle.bus.proofs.Searches.{lowest_missing}
+use Rattle.std.proofs.Common.{rules}
+use Rattle.bus.proofs.Searches.{is_lowest}
 use Rattle.buses.proofs.drives.DrivesBus.requesting.Goals as goal
 
 -- no drive requests
 pub returns : goal.returns
-returns c = sym (lowest_missing _ (λ j l m. search rules))
+returns c = is_lowest _ _ (λ j l m. search rules)

@@ -1,10 +1,11 @@
-use Rattle.std.proofs.Common.{sym, arith, rules}
-use Rattle.bus.proofs.Searches.{lowest_found, lowest_missing}
+use Rattle.std.proofs.Common.{arith, rules}
+use Rattle.queue.specs.Rows.{queued}
+use Rattle.bus.proofs.Searches.{lowest_only}
+use Rattle.buses.specs.Devices.{teletype}
 use Rattle.buses.proofs.teletype.TeletypeBus.requesting.Goals as goal
 
 -- no device but 2 requests
-pub returns-then-requests : goal.returns-then-requests
-returns-then-requests c = sym (lowest_found _ 2 (omega arith) (omega arith) (λ j l m. search rules) (search rules))
-
-pub returns-else-requests : goal.returns-else-requests
-returns-else-requests c = sym (lowest_missing _ (λ j l m. search rules))
+pub returns : goal.returns
+returns c =
+    let only = lowest_only (teletype (queued c.args.self.now.waiting) c.args.self.now.usage) 2 (omega arith) (omega arith) (λ j other. search rules) in
+    cc

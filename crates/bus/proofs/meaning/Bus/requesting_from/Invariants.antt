@@ -1,0 +1,7 @@
+use Rattle.std.proofs.Common.{◌≤◌}
+use Rattle.bus.specs.Devices.{Quiet}
+use Rattle.bus.proofs.meaning.Bus.requesting_from.Given as goal
+
+-- no device that was passed requests
+abbrev pub invariant-loop-device : goal.invariant-loop-device
+invariant-loop-device g l = (1 ≤ l.device) × Quiet (g.Self.Bus.devices l.self) l.device
