@@ -1,6 +1,6 @@
 //! Multiplication and division.
 
-ghost use Rattle.std.specs.Prelude.{◌≡◌, ◌<◌, ◌*ℤ◌, cond, Some, None, FitsSigned, int_div, int_rem};
+ghost use Rattle.std.specs.Prelude.{◌≡◌, ◌≢◌, ◌*ℤ◌, cond, Some, None, FitsSigned, int_div, int_rem};
 ghost use Rattle.std.proofs.Common.{of_z};
 ghost use Rattle.std.specs.Int.{w32, w64};
 ghost use Rattle.words.specs.Sums.{out_of_range};
@@ -45,12 +45,12 @@ fn held(q: i64) -> Option<u32>
     i32::try_from(q).ok().map(i32::cast_unsigned)
 }
 
-/// What remains of a division, with the dividend's sign.
-fn rest(n: i64, d: i64) -> u32
-    requires { (FitsSigned w32 d) × ((0 < of_z w64 d) × (FitsSigned w64 (int_div n d))) }
-    ensures { result ≡ of_z w32 (int_rem n d) }
+/// What remains of a division.
+fn rest(n: i64, d: i32) -> i32
+    requires { (of_z w32 d ≢ 0) × (FitsSigned w64 (int_div n d)) }
+    ensures { result ≡ int_rem n d }
 {
-    ((n % d) as i32).cast_unsigned()
+    (n % d as i64) as i32
 }
 
 /// The quotient of a signed pair by a fullword, toward zero, and the remainder with the dividend's sign. Refused by zero,
@@ -60,7 +60,7 @@ pub fn divided(hi: u32, lo: u32, by: u32) -> Option<(u32, u32)>
     ensures { result ≡ divided hi lo by }
 {
     let n = joined(hi, lo);
-    let d = by.cast_signed() as i64;
-    let quotient = held(n.checked_div(d)?)?;
-    Some((quotient, rest(n, d)))
+    let d = by.cast_signed();
+    let quotient = held(n.checked_div(d as i64)?)?;
+    Some((quotient, rest(n, d).cast_unsigned()))
 }
