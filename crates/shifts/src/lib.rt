@@ -4,7 +4,6 @@
 ghost use Rattle.std.specs.Prelude.{◌≡◌, ◌+◌, ◌*◌, ◌%◌, ◌<◌, ◌≤◌};
 ghost use Rattle.words.specs.Sums.{flag, marks};
 ghost use Rattle.shifts.specs.Shifts.{out_right, out_left, shifted, shifted_code};
-ghost use Rattle.shifts.specs.Shifts.{shift_right, shift_left, shift_right_arithmetic, shift_left_arithmetic, rotate_right, rotate_left, shift_right_code, shift_left_code, shift_right_arithmetic_code, shift_left_arithmetic_code, rotate_right_code, rotate_left_code};
 ghost use Rattle.shifts.specs.Laws.{RotatesBack, ShiftExample};
 
 use words::codes::{ConditionCode, coded};
@@ -83,96 +82,6 @@ fn out_left(size: u32, v: u32, n: u32) -> bool
     ensures { flag 8 result ≡ 8 * out_left size v n }
 {
     n != 0 && (v >> (size - n)) % 2 == 1
-}
-
-/// Shifts to the right; zeros come in.
-pub fn shift_right(v: u32, count: u32) -> u32
-    ensures { result ≡ shift_right v (count % 32) }
-{
-    Shift::Right.shifted(v, count).value
-}
-
-/// The condition code of `shift_right`.
-pub fn shift_right_code(v: u32, count: u32) -> u32
-    ensures value { result ≡ shift_right_code v (count % 32) }
-    ensures small { result < 16 }
-{
-    Shift::Right.shifted(v, count).code.bits()
-}
-
-/// Shifts to the left; zeros come in.
-pub fn shift_left(v: u32, count: u32) -> u32
-    ensures { result ≡ shift_left v (count % 32) }
-{
-    Shift::Left.shifted(v, count).value
-}
-
-/// The condition code of `shift_left`.
-pub fn shift_left_code(v: u32, count: u32) -> u32
-    ensures value { result ≡ shift_left_code v (count % 32) }
-    ensures small { result < 16 }
-{
-    Shift::Left.shifted(v, count).code.bits()
-}
-
-/// Shifts to the right; copies of the sign come in.
-pub fn shift_right_arithmetic(v: u32, count: u32) -> u32
-    ensures { result ≡ shift_right_arithmetic v (count % 32) }
-{
-    Shift::RightArithmetic.shifted(v, count).value
-}
-
-/// The condition code of `shift_right_arithmetic`.
-pub fn shift_right_arithmetic_code(v: u32, count: u32) -> u32
-    ensures value { result ≡ shift_right_arithmetic_code v (count % 32) }
-    ensures small { result < 16 }
-{
-    Shift::RightArithmetic.shifted(v, count).code.bits()
-}
-
-/// Shifts the bits below the sign to the left; zeros come in, and the sign stays.
-pub fn shift_left_arithmetic(v: u32, count: u32) -> u32
-    ensures { result ≡ shift_left_arithmetic v (count % 32) }
-{
-    Shift::LeftArithmetic.shifted(v, count).value
-}
-
-/// The condition code of `shift_left_arithmetic`.
-pub fn shift_left_arithmetic_code(v: u32, count: u32) -> u32
-    ensures value { result ≡ shift_left_arithmetic_code v (count % 32) }
-    ensures small { result < 16 }
-{
-    Shift::LeftArithmetic.shifted(v, count).code.bits()
-}
-
-/// Rotates to the right.
-pub fn rotate_right(v: u32, count: u32) -> u32
-    ensures { result ≡ rotate_right v (count % 32) }
-{
-    Shift::RotateRight.shifted(v, count).value
-}
-
-/// The condition code of `rotate_right`.
-pub fn rotate_right_code(v: u32, count: u32) -> u32
-    ensures value { result ≡ rotate_right_code v (count % 32) }
-    ensures small { result < 16 }
-{
-    Shift::RotateRight.shifted(v, count).code.bits()
-}
-
-/// Rotates to the left.
-pub fn rotate_left(v: u32, count: u32) -> u32
-    ensures { result ≡ rotate_left v (count % 32) }
-{
-    Shift::RotateLeft.shifted(v, count).value
-}
-
-/// The condition code of `rotate_left`.
-pub fn rotate_left_code(v: u32, count: u32) -> u32
-    ensures value { result ≡ rotate_left_code v (count % 32) }
-    ensures small { result < 16 }
-{
-    Shift::RotateLeft.shifted(v, count).code.bits()
 }
 
 /// A rotate and the rotate back give the number again.
