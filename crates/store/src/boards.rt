@@ -29,8 +29,7 @@ impl<'a> CoreBoards<'a> {
         ensures holds { result.now ≡ self.entry.words.now }
         ensures lent { result.ghost_name ≡ self.entry.words.ghost_name }
     {
-        let CoreBoards { words } = self;
-        words
+        self.words
     }
 
     fn places(&self) -> usize

@@ -24,8 +24,7 @@ impl<'a, S> Borrowed<'a, S> {
         ensures holds { result.now ≡ self.entry.store.now }
         ensures lent { result.ghost_name ≡ self.entry.store.ghost_name }
     {
-        let Borrowed { store } = self;
-        store
+        self.store
     }
 }
 

@@ -27,8 +27,7 @@ impl<'a> ByteImage<'a> {
         ensures holds { result.now ≡ self.entry.bytes.now }
         ensures lent { result.ghost_name ≡ self.entry.bytes.ghost_name }
     {
-        let ByteImage { bytes } = self;
-        bytes
+        self.bytes
     }
 
     fn places(&self) -> usize
@@ -38,6 +37,7 @@ impl<'a> ByteImage<'a> {
     }
 }
 
+// Fitted places and kinds are spelled as for core boards: a trait over the lent memory would need as many methods as they share.
 impl Store for ByteImage<'_> {
     ghost meaning = { λ s. byte_image s.bytes.now };
 
@@ -57,7 +57,7 @@ impl Store for ByteImage<'_> {
 
     fn read(&self, place: usize) -> u16 {
         if place < self.places() {
-            self.bytes[2 * place] as u16 * 256 + self.bytes[2 * place + 1] as u16
+            u16::from_be_bytes([self.bytes[2 * place], self.bytes[2 * place + 1]])
         } else {
             0
         }
@@ -70,8 +70,9 @@ impl Store for ByteImage<'_> {
         ensures bytes { self.new.bytes.now ≡ image_after self.old.bytes.now place word }
     {
         if place < self.places() {
-            self.bytes[2 * place] = (word / 256) as u8;
-            self.bytes[2 * place + 1] = (word % 256) as u8;
+            let [high, low] = word.to_be_bytes();
+            self.bytes[2 * place] = high;
+            self.bytes[2 * place + 1] = low;
         }
     }
 }

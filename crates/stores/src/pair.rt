@@ -28,11 +28,11 @@ impl<S, T> BankPair<S, T> {
         ensures before { result.0 ≡ self.first }
         ensures after { result.1 ≡ self.second }
     {
-        let BankPair { first, second } = self;
-        (first, second)
+        (self.first, self.second)
     }
 }
 
+// Which of the two a place is in is asked three times: an enum of the two would be matched in the same three arms each time.
 impl<S: Store, T: Store> Store for BankPair<S, T> {
     ghost meaning = { λ s. behind (S.Store.meaning s.first) (T.Store.meaning s.second) };
 
@@ -66,8 +66,8 @@ impl<S: Store, T: Store> Store for BankPair<S, T> {
 
     /// Places of the second past the limit stay.
     fn write(&mut self, place: usize, word: u16)
-        ensures written { behind (S.Store.meaning self.new.first) (T.Store.meaning self.new.second) ≡ stored (behind (S.Store.meaning self.old.first) (T.Store.meaning self.old.second)) place word }
-        ensures lent { both (S.Store.loans self.new.first) (T.Store.loans self.new.second) ≡ both (S.Store.loans self.old.first) (T.Store.loans self.old.second) }
+        ensures written { ⟦<BankPair<S, T> as Store>⟧.meaning self.new ≡ stored (⟦<BankPair<S, T> as Store>⟧.meaning self.old) place word }
+        ensures lent { ⟦<BankPair<S, T> as Store>⟧.loans self.new ≡ ⟦<BankPair<S, T> as Store>⟧.loans self.old }
         ensures before { S.Store.meaning self.new.first ≡ first_after (S.Store.meaning self.old.first) place word }
         ensures after { T.Store.meaning self.new.second ≡ second_after (S.Store.meaning self.old.first) (T.Store.meaning self.old.second) place word }
     {

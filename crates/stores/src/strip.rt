@@ -30,8 +30,7 @@ impl<S> LoaderStrip<S> {
     pub fn into_below(self) -> S
         ensures { result ≡ self.below }
     {
-        let LoaderStrip { below, strip: _ } = self;
-        below
+        self.below
     }
 }
 
@@ -39,7 +38,7 @@ impl<S: Store> LoaderStrip<S> {
     fn covers(&self, place: usize) -> bool
         ensures { result ≡ in_strip (S.Store.meaning self.now.below).fitted place }
     {
-        place < self.below.fitted() && START <= place && place < END
+        place < self.below.fitted() && (START..END).contains(&place)
     }
 }
 
@@ -70,7 +69,7 @@ impl<S: Store> Store for LoaderStrip<S> {
 
     /// The strip and what it hides stay.
     fn write(&mut self, place: usize, word: u16)
-        ensures written { stripped (S.Store.meaning self.new.below) self.new.strip ≡ stored (stripped (S.Store.meaning self.old.below) self.old.strip) place word }
+        ensures written { ⟦<LoaderStrip<S> as Store>⟧.meaning self.new ≡ stored (⟦<LoaderStrip<S> as Store>⟧.meaning self.old) place word }
         ensures lent { S.Store.loans self.new.below ≡ S.Store.loans self.old.below }
         ensures under { S.Store.meaning self.new.below ≡ under_after (S.Store.meaning self.old.below) place word }
         ensures holds { self.new.strip ≡ self.old.strip }

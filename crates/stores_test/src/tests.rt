@@ -89,3 +89,21 @@ fn joined_buses(rt: HostRuntime) {
     assert!(rt; bus.answers(2) && bus.answers(16) && bus.answers(23) && !bus.answers(24));
     assert_eq!(rt; bus.offer(2), 65);
 }
+
+#[test]
+fn queue_round_its_end(rt: HostRuntime) {
+    let mut slots = [0; 3];
+    let mut queue = Queue::new(&mut slots);
+    for item in [1, 2, 3] {
+        assert_eq!(rt; queue.push(item), Ok(()));
+    }
+    assert_eq!(rt; queue.push(4), Err(4));
+    assert_eq!(rt; queue.pop(), Some(1));
+    assert_eq!(rt; queue.push(5), Ok(()));
+    let mut seen = [0; 3];
+    for (place, item) in seen.iter_mut().zip(&queue) {
+        *place = *item;
+    }
+    assert_eq!(rt; seen, [2, 3, 5]);
+    assert_eq!(rt; queue.iter().count(), queue.len());
+}
