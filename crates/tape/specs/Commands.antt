@@ -1,9 +1,14 @@
 -- The commands of a tape, read by the code.
-use Rattle.std.specs.Prelude.{◌≡◌, ℕ, ◌+◌, ◌^◌, ◌≤◌, List, length, drop}
+use Rattle.std.specs.Prelude.{◌≡◌, ℕ, zero, suc, ◌+◌, ◌*◌, ◌^◌, ◌≤◌, List, length, drop, slice_index}
 use Rattle.model.specs.Console.{deposit, set_item}
-use Rattle.model.specs.Tapes.{Order, point, obey, go, known, command_of, Spelling, broken, spelled}
+use Rattle.model.specs.Tapes.{Order, point, obey, go, Command, unknown, known, command_of, Spelling, broken, spelled}
 use Rattle.tape.specs.declared.orders.Order.{Order as TapeOrder}
 use Rattle.tape.specs.declared.orders.Order.TheVariants.{Point, Deposit, Set, Go}
+
+-- The number of the first n bytes, high byte first.
+abbrev pub number_of : ℕ → List ℕ → ℕ
+number_of zero bytes = 0
+number_of (suc n) bytes = number_of n bytes * 2 ^ 8 + slice_index bytes n
 
 -- The order that a command of the code is.
 abbrev pub order_of : TapeOrder → Order
@@ -12,12 +17,14 @@ order_of (Deposit a v) = obey (deposit a v)
 order_of (Set i v) = obey (set_item i v)
 order_of (Go n) = go n
 
+-- A command whose operand the bytes hold whole: its order, the next address, and the bytes behind it.
+abbrev pub Holds : Command → List ℕ → Order → ℕ → List ℕ → Type 0
+Holds unknown bytes o next rest = ⊥
+Holds (known size p n) bytes o next rest = (p ≡ o) × (n ≡ next) × (size ≤ length bytes) × (rest ≡ drop size bytes)
+
 -- A letter that, with the bytes behind it, is a whole command: its order, the next address, and the bytes behind it.
-pub record Whole (letter a : ℕ) (bytes : List ℕ) (o : Order) (next : ℕ) (rest : List ℕ) : Type 0 where
-  pub size : ℕ
-  pub command : command_of letter a bytes ≡ known size o next
-  pub enough : size ≤ length bytes
-  pub behind : rest ≡ drop size bytes
+abbrev pub Whole : ℕ → ℕ → List ℕ → Order → ℕ → List ℕ → Type 0
+Whole letter a bytes o next rest = Holds (command_of letter a bytes) bytes o next rest
 
 -- A letter that is no whole command, with the number of that denial.
 abbrev pub Broken : ℕ → ℕ → List ℕ → ℕ → Type 0

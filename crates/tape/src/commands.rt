@@ -1,7 +1,7 @@
-ghost use Rattle.std.specs.Prelude.{◌≡◌, ◌^◌, ◌<◌, ◌≤◌, length, drop, MatchOption, MatchResult, slice_index};
+ghost use Rattle.std.specs.Prelude.{◌≡◌, ◌^◌, ◌<◌, ◌≤◌, length, drop, MatchResult, slice_index};
 ghost use Rattle.model.specs.Answers.{number};
-ghost use Rattle.model.specs.Tapes.{two as two_of, three as three_of, four as four_of};
-ghost use Rattle.tape.specs.Commands.{order_of, Whole, Broken, NextTo};
+ghost use Rattle.model.specs.Tapes.{four as four_of};
+ghost use Rattle.tape.specs.Commands.{number_of, order_of, Whole, Broken, NextTo};
 
 use crate::orders::Order;
 use model::{Denial, Item};
@@ -13,61 +13,29 @@ struct Operand<'t> {
     rest: &'t [u8],
 }
 
-fn two<'t>(bytes: &'t [u8]) -> Option<Operand<'t>>
-    ensures { MatchOption result (length bytes.now < 2) (λ o. (2 ≤ length bytes.now) × (o.value ≡ two_of 0 bytes.now) × (o.value < 2 ^ 16) × (o.rest.now ≡ drop 2 bytes.now)) }
+/// The number of the first N bytes, high byte first.
+fn take_operand<const N: usize>(bytes: &[u8]) -> Result<Operand<'_>, Denial>
+    requires { N ≤ 4 }
+    ensures { MatchResult result
+        (λ o. (N ≤ length bytes.now) × (o.value ≡ number_of N bytes.now) × (o.value < 256 ^ N) × (o.rest.now ≡ drop N bytes.now))
+        (λ d. (length bytes.now < N) × (d ≡ Denial.CutShort)) }
 {
-    match bytes {
-        [a, b, rest @ ..] => Some(Operand {
-            value: *a as u32 * 0x100 + *b as u32,
-            rest,
-        }),
-        _ => None,
+    let (first, rest) = bytes.split_first_chunk::<N>().ok_or(Denial::CutShort)?;
+    let mut value = 0;
+    for byte in first {
+        value = value * 0x100 + u32::from(*byte);
     }
+    Ok(Operand { value, rest })
 }
 
-fn three<'t>(bytes: &'t [u8]) -> Option<Operand<'t>>
-    ensures { MatchOption result (length bytes.now < 3) (λ o. (3 ≤ length bytes.now) × (o.value ≡ three_of 0 bytes.now) × (o.value < 2 ^ 24) × (o.rest.now ≡ drop 3 bytes.now)) }
+/// The first byte, and the number of the four behind it.
+fn take_numbered(bytes: &[u8]) -> Result<(u8, Operand<'_>), Denial>
+    ensures { MatchResult result
+        (λ o. (5 ≤ length bytes.now) × (o.0 ≡ slice_index bytes.now 0) × (o.1.value ≡ four_of 1 bytes.now) × (o.1.rest.now ≡ drop 5 bytes.now))
+        (λ d. (length bytes.now < 5) × (d ≡ Denial.CutShort)) }
 {
-    match bytes {
-        [a, b, c, rest @ ..] => Some(Operand {
-            value: *a as u32 * 0x1_0000 + *b as u32 * 0x100 + *c as u32,
-            rest,
-        }),
-        _ => None,
-    }
-}
-
-fn four<'t>(bytes: &'t [u8]) -> Option<Operand<'t>>
-    ensures { MatchOption result (length bytes.now < 4) (λ o. (4 ≤ length bytes.now) × (o.value ≡ four_of 0 bytes.now) × (o.rest.now ≡ drop 4 bytes.now)) }
-{
-    match bytes {
-        [a, b, c, d, rest @ ..] => Some(Operand {
-            value: *a as u32 * 0x100_0000 + *b as u32 * 0x1_0000 + *c as u32 * 0x100 + *d as u32,
-            rest,
-        }),
-        _ => None,
-    }
-}
-
-/// A byte, a number, and the bytes behind them.
-#[derive(Clone, Copy)]
-struct Numbered<'t> {
-    number: u8,
-    value: u32,
-    rest: &'t [u8],
-}
-
-fn five<'t>(bytes: &'t [u8]) -> Option<Numbered<'t>>
-    ensures { MatchOption result (length bytes.now < 5) (λ o. (5 ≤ length bytes.now) × (o.number ≡ slice_index bytes.now 0) × (o.value ≡ four_of 1 bytes.now) × (o.rest.now ≡ drop 5 bytes.now)) }
-{
-    match bytes {
-        [n, a, b, c, d, rest @ ..] => Some(Numbered {
-            number: *n,
-            value: *a as u32 * 0x100_0000 + *b as u32 * 0x1_0000 + *c as u32 * 0x100 + *d as u32,
-            rest,
-        }),
-        _ => None,
-    }
+    let (number, behind) = bytes.split_first().ok_or(Denial::CutShort)?;
+    Ok((*number, take_operand::<4>(behind)?))
 }
 
 /// A command read from a tape: its order, the address of the next deposit, and the bytes behind it.
@@ -79,14 +47,13 @@ pub struct Command<'t> {
 }
 
 /// Reads the command of a letter; `address` is that of the next deposit, at most X'1000000'.
-pub fn read_command<'t>(letter: u8, address: u32, bytes: &'t [u8]) -> Result<Command<'t>, Denial>
+#[tactic(auto, unfolding(model::specs::Tapes::command_of))]
+pub fn read_command(letter: u8, address: u32, bytes: &[u8]) -> Result<Command<'_>, Denial>
     ensures { address ≤ 2 ^ 24 → MatchResult result (λ c. Whole letter address bytes.now (order_of c.order) c.next c.rest.now × NextTo c.order c.next) (λ d. Broken letter address bytes.now (number d)) }
 {
     match letter as char {
         'A' => {
-            let Some(operand) = three(bytes) else {
-                return Err(Denial::CutShort);
-            };
+            let operand = take_operand::<3>(bytes)?;
             Ok(Command {
                 order: Order::Point,
                 next: operand.value,
@@ -94,9 +61,7 @@ pub fn read_command<'t>(letter: u8, address: u32, bytes: &'t [u8]) -> Result<Com
             })
         }
         'D' => {
-            let Some(operand) = two(bytes) else {
-                return Err(Denial::CutShort);
-            };
+            let operand = take_operand::<2>(bytes)?;
             Ok(Command {
                 order: Order::Deposit(address, operand.value as u16),
                 next: address.saturating_add(2),
@@ -104,32 +69,23 @@ pub fn read_command<'t>(letter: u8, address: u32, bytes: &'t [u8]) -> Result<Com
             })
         }
         'R' => {
-            let Some(operand) = five(bytes) else {
-                return Err(Denial::CutShort);
-            };
+            let (number, operand) = take_numbered(bytes)?;
             Ok(Command {
-                order: Order::Set(
-                    Item::General(operand.number / 16, operand.number % 16),
-                    operand.value,
-                ),
+                order: Order::Set(Item::General(number / 16, number % 16), operand.value),
                 next: address,
                 rest: operand.rest,
             })
         }
         'S' => {
-            let Some(operand) = five(bytes) else {
-                return Err(Denial::CutShort);
-            };
+            let (number, operand) = take_numbered(bytes)?;
             Ok(Command {
-                order: Order::Set(Item::Segment(operand.number), operand.value),
+                order: Order::Set(Item::Segment(number), operand.value),
                 next: address,
                 rest: operand.rest,
             })
         }
         'P' => {
-            let Some(operand) = four(bytes) else {
-                return Err(Denial::CutShort);
-            };
+            let operand = take_operand::<4>(bytes)?;
             Ok(Command {
                 order: Order::Set(Item::Status, operand.value),
                 next: address,
@@ -137,9 +93,7 @@ pub fn read_command<'t>(letter: u8, address: u32, bytes: &'t [u8]) -> Result<Com
             })
         }
         'L' => {
-            let Some(operand) = three(bytes) else {
-                return Err(Denial::CutShort);
-            };
+            let operand = take_operand::<3>(bytes)?;
             Ok(Command {
                 order: Order::Set(Item::Location, operand.value),
                 next: address,
@@ -147,9 +101,7 @@ pub fn read_command<'t>(letter: u8, address: u32, bytes: &'t [u8]) -> Result<Com
             })
         }
         'G' => {
-            let Some(operand) = three(bytes) else {
-                return Err(Denial::CutShort);
-            };
+            let operand = take_operand::<3>(bytes)?;
             Ok(Command {
                 order: Order::Go(operand.value),
                 next: address,
