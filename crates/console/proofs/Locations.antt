@@ -11,8 +11,3 @@ even v e l = omega arith
 pub location_same : (v : ℕ) → value_denial Location v ≡ None → counter (address v) ≡ v
 unfolding counter address strange
 location_same v h = search (rules, even)
-
--- A place that is not denied lies below X'100000'.
-pub deposit_low : (a : ℕ) (m : Store) → or_else (place_denial a m) (fixed_denial a m) ≡ None → a < 2 ^ 20
-unfolding strange
-deposit_low a m h = search rules

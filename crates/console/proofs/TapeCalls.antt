@@ -1,15 +1,23 @@
 -- A tape, command by command.
-use Rattle.std.proofs.Common.{◌≡◌, ℕ, zero, suc, ◌+◌, ◌-◌, ◌^◌, ◌<◌, ◌≤◌, Bool, true, false, cond, ltb, List, [], ◌∷◌, length, get_or, take, drop, Some, None, Ok, Option, sym, refl, ap, ◌∙◌, subst, add-zero, arith, length-drop, rules}
+use Rattle.std.proofs.Common.{◌≡◌, ℕ, zero, suc, ◌+◌, ◌-◌, ◌^◌, ◌<◌, ◌≤◌, Bool, true, false, cond, ltb, List, [], ◌∷◌, length, get_or, take, drop, Some, None, Ok, Err, Option, Result, MatchResult, sym, refl, ap, ◌∙◌, subst, add-zero, arith, length-drop, rules}
 use Rattle.std.proofs.lemmas.List.{drop_more, take_rest, nil_from_length}
+use Rattle.queue.specs.declared.Queue.{Queue}
+use Rattle.queue.specs.Rows.{queued, capacity}
+use Rattle.model.specs.declared.Denial.{Denial}
 use Rattle.model.specs.declared.Record.{Record}
+use Rattle.model.specs.Stores.{Store}
+use Rattle.model.specs.Buses.{Bus}
 use Rattle.model.specs.Effects.{Prog}
-use Rattle.model.specs.Answers.{on, Answer, denied, played, faulted, accepted}
-use Rattle.model.specs.Console.{Desk, with_key}
-use Rattle.model.specs.Tapes.{Order, Command, known, command_of, Spelling, end, broken, order, spelled, spell_from, spell, Obeys, Playing, ends, breaks, halts, goes_on, PlaysUnless}
+use Rattle.model.specs.Answers.{number, on, Answer, denied, done, played, faulted, accepted}
+use Rattle.model.specs.Console.{Desk, Act, with_key, call, gives}
+use Rattle.model.specs.Tapes.{Order, Command, unknown, known, command_of, Spelling, end, broken, order, spelled, spell_from, spell, obey, Obeys, Playing, ends, breaks, halts, goes_on, PlaysUnless}
 use Rattle.tape.specs.declared.orders.Order.{Order as TapeOrder}
 use Rattle.tape.specs.declared.orders.Order.TheVariants.{Point, Deposit, Set, Go}
-use Rattle.tape.specs.Commands.{Broken, NextTo}
-use Rattle.console.specs.Tape.{Low}
+use Rattle.tape.specs.Commands.{order_of, Holds, Broken, NextTo}
+use Rattle.processor.specs.declared.cpu.Core.{Core}
+use Rattle.instructions.specs.Instructions.{instruction}
+use Rattle.console.specs.View.{done_by}
+use Rattle.console.specs.Tape.{on_desk, Obeyed, Low}
 
 past : (b : ℕ) (bytes : List ℕ) (size place a : ℕ) → spell_from (b ∷ bytes) (suc size) place a ≡ spell_from bytes size (place + 1) a
 unfolding spell_from
@@ -44,6 +52,15 @@ spell_whole letter a size next place bytes o e h =
 pub spell_broken : (letter a n place : ℕ) (bytes : List ℕ) → Broken letter a bytes n → spell_from (letter ∷ bytes) 0 place a ≡ broken n place letter
 spell_broken letter a n place bytes h = here letter bytes place a ∙ h place (λ s m. spell_from bytes s (place + 1) m)
 
+-- What is told of an error.
+pub stopped : {X Y : Type 0} (P : X → Type 0) (Q : Y → Type 0) (r : Result X Y) (d : Y) → r ≡ Err d → Q d → MatchResult r P Q
+stopped P Q r d e q = subst (λ x. MatchResult x P Q) (sym e) q
+
+-- A command that the bytes hold whole is known.
+pub held : (c : Command) (bytes : List ℕ) (o : Order) (next : ℕ) (rest : List ℕ) → Holds c bytes o next rest → (size : ℕ) × (c ≡ known size o next) × (size ≤ length bytes) × (rest ≡ drop size bytes)
+held unknown bytes o next rest h = absurd h
+held (known size p n) bytes o next rest h = (size, (λ i. known size (h.0 i) (h.1 i)), h.2, h.3)
+
 module _ (meaning : ℕ → Prog) (cap : ℕ) where
   -- A letter that begins no whole command stops the tape there.
   pub broken_there :
@@ -72,6 +89,15 @@ module _ (meaning : ℕ → Prog) (cap : ℕ) where
       ap (λ (l : List ℕ). spell_from l 0 at next) er ∙ ap (λ (k : ℕ). spell_from (drop size bytes) 0 k next) ea in
       subst (λ (s : Spelling). Playing meaning cap s n w q x v p) (sym (spell_whole letter a size next place bytes o e h))
       (goes_on b ob acc (subst (λ (s : Spelling). Playing meaning cap s (n + 1) u r x v p) there more))
+
+-- An order to the console, by what the call answers.
+pub obeyed_call :
+    {S B : Type 0} (meaning : S → Store) (devices : B → Bus) (o : TapeOrder) (c : Act) (m n : Core S B) (t : Queue Record) (r : Result (Unit {0}) Denial) →
+    order_of o ≡ obey c → call instruction c (on_desk meaning devices m) ≡ gives (done_by r) (on_desk meaning devices n) → Obeyed meaning devices o m t r n t
+obeyed_call meaning devices o c m n t (Ok u) eo e =
+    (done, subst (λ (x : Order). Obeys instruction (capacity t) x (on_desk meaning devices m) (queued t) done (on_desk meaning devices n) (queued t)) (sym eo) (e, refl), refl)
+obeyed_call meaning devices o c m n t (Err d) eo e =
+    subst (λ (x : Order). Obeys instruction (capacity t) x (on_desk meaning devices m) (queued t) (denied (number d)) (on_desk meaning devices n) (queued t)) (sym eo) (e, refl)
 
 -- After an accepted command the next address has at most 24 bits and one.
 pub next_low : (o : TapeOrder) (n : ℕ) (u : Unit {0}) → NextTo o n → Low o (Ok u) → n ≤ 2 ^ 24

@@ -1,5 +1,5 @@
 -- The tape's code as the definitions see it.
-use Rattle.std.specs.Prelude.{◌≡◌, ℕ, ◌+◌, ◌-◌, ◌^◌, ◌<◌, true, List, ◌∷◌, length, Some, Ok, Err, Result}
+use Rattle.std.specs.Prelude.{◌≡◌, ℕ, ◌+◌, ◌-◌, ◌^◌, ◌<◌, true, List, ◌∷◌, length, Some, Ok, Err, Result, IfOk}
 use Rattle.queue.specs.declared.Queue.{Queue}
 use Rattle.queue.specs.Rows.{queued, capacity}
 use Rattle.model.specs.declared.Denial.{Denial}
@@ -16,7 +16,6 @@ use Rattle.console.specs.declared.machine.Machine.{Machine}
 use Rattle.tape.specs.declared.orders.Order.{Order as TapeOrder}
 use Rattle.tape.specs.declared.orders.Order.TheVariants.{Point, Deposit, Set, Go}
 use Rattle.tape.specs.declared.orders.TapeFault.{TapeFault}
-use Rattle.tape.specs.declared.faults.Located.{Located}
 use Rattle.tape.specs.Commands.{order_of}
 use Rattle.console.specs.View.{desk_of}
 
@@ -45,23 +44,23 @@ module _ {S B : Type 0} (meaning : S → Store) (devices : B → Bus) where
 
 -- An accepted deposit lies below X'100000'.
 abbrev pub Low : {X : Type 0} → TapeOrder → Result X Denial → Type 0
-Low (Deposit a v) (Ok u) = a < 2 ^ 20
-Low (Deposit a v) (Err d) = Unit {0}
+Low (Deposit a v) r = IfOk r (λ _. a < 2 ^ 20)
 Low Point r = Unit {0}
 Low (Set i v) r = Unit {0}
 Low (Go n) r = Unit {0}
 
 module _ {S B : Type 0} (meaning : S → Store) (devices : B → Bus) where
-  -- The command at a letter was obeyed, n of them before it: as the tape goes on from the bytes rest, so it goes on from the letter.
-  abbrev pub Advances : ℕ → List ℕ → ℕ → ℕ → Core S B → Queue Record → List ℕ → ℕ → Core S B → Queue Record → Type 0
-  Advances letter bytes place a m t rest next n u =
-      (k : ℕ) (x : Answer) (v : Desk) (p : List Record) →
+  -- The command at a letter was obeyed, at any place and after any number of them: as the tape goes on from the bytes rest, so it
+  -- goes on from the letter.
+  abbrev pub Advances : ℕ → List ℕ → ℕ → Core S B → Queue Record → List ℕ → ℕ → Core S B → Queue Record → Type 0
+  Advances letter bytes a m t rest next n u =
+      (place k : ℕ) (x : Answer) (v : Desk) (p : List Record) →
       Playing instruction (capacity t) (spell_from rest 0 (place + 1 + (length bytes - length rest)) next) (k + 1) (on_desk meaning devices n) (queued u) x v p →
       Playing instruction (capacity t) (spell_from (letter ∷ bytes) 0 place a) k (on_desk meaning devices m) (queued t) x v p
 
-  -- The tape stopped at a letter.
-  abbrev pub StopsAt : ℕ → List ℕ → ℕ → ℕ → Core S B → Queue Record → Located → Core S B → Queue Record → Type 0
-  StopsAt letter bytes place a m t l n u =
-      (k : ℕ) →
+  -- The tape stopped at a letter, by a denial.
+  abbrev pub StopsAt : ℕ → List ℕ → ℕ → Core S B → Queue Record → Denial → Core S B → Queue Record → Type 0
+  StopsAt letter bytes a m t d n u =
+      (place k : ℕ) →
       Playing instruction (capacity t) (spell_from (letter ∷ bytes) 0 place a) k (on_desk meaning devices m) (queued t)
-      (faulted (number l.denial) l.place (Some l.letter)) (on_desk meaning devices n) (queued u)
+      (faulted (number d) place (Some letter)) (on_desk meaning devices n) (queued u)

@@ -14,6 +14,7 @@ use Rattle.processor.specs.View.{state_of}
 use Rattle.instructions.specs.Instructions.{instruction}
 use Rattle.steps.specs.declared.run.RunAnswer.{RunAnswer}
 use Rattle.console.specs.declared.machine.Machine.{Machine}
+use Rattle.console.specs.Keys.{number_of}
 
 -- The number of a denial, if there is one.
 abbrev pub refusal : {X : Type 0} → Result X Denial → Option ℕ
@@ -39,7 +40,7 @@ ran_by (Err d) = denied (number d)
 
 module _ {S B : Type 0} (meaning : S → Store) (devices : B → Bus) where
   abbrev pub desk_of : Machine S B → Desk
-  desk_of m = record { key = m.key.position; core = state_of meaning devices m.core }
+  desk_of m = record { key = number_of m.key.position; core = state_of meaning devices m.core }
 
   -- A call that adds nothing to the trace: what it answers, and the machine n after it.
   abbrev pub Says : Act → Machine S B → Answer → Machine S B → Type 0

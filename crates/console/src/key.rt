@@ -1,26 +1,64 @@
 ghost use Rattle.std.specs.Prelude.{◌≡◌, IfOk, ◌==◌};
-ghost use Rattle.model.specs.Answers.{off, on, lock};
+ghost use Rattle.model.specs.Answers.{off, lock};
 ghost use Rattle.model.specs.Console.{or_else, deny_if, position_denial};
+ghost use Rattle.console.specs.Keys.{number_of, Turns};
 ghost use Rattle.console.specs.View.{refusal};
 
 use model::Denial;
 
+/// Where the key stands.
+#[derive(Clone, Copy, Debug, PartialEq, Eq)]
+pub enum Position {
+    Off,
+    On,
+    Lock,
+}
+
+impl TryFrom<u8> for Position {
+    type Error = Denial;
+
+    ghost try_from_gives = { Turns };
+
+    fn try_from(number: u8) -> Result<Position, Denial> {
+        match number {
+            0 => Ok(Position::Off),
+            1 => Ok(Position::On),
+            2 => Ok(Position::Lock),
+            _ => Err(Denial::OutOfRange),
+        }
+    }
+}
+
+impl From<Position> for u8 {
+    ghost from_gives = { λ p n. n ≡ number_of p };
+
+    fn from(position: Position) -> u8 {
+        match position {
+            Position::Off => 0,
+            Position::On => 1,
+            Position::Lock => 2,
+        }
+    }
+}
+
 /// The key: 0 OFF, 1 ON, 2 LOCK.
 #[derive(Clone, Copy)]
 pub struct Key {
-    position: u8,
+    position: Position,
 }
 
 impl Key {
     /// The key of a new machine.
     pub(crate) fn new() -> Key
-        ensures { result.position ≡ on }
+        ensures { result.position ≡ Position.On }
     {
-        Key { position: 1 }
+        Key {
+            position: Position::On,
+        }
     }
 
     /// Where the key is.
-    pub(crate) fn position(self) -> u8
+    pub(crate) fn position(self) -> Position
         ensures { result ≡ self.position }
     {
         self.position
@@ -29,33 +67,31 @@ impl Key {
     /// The key at a position.
     pub(crate) fn at(position: u8) -> Result<Key, Denial>
         ensures refused { refusal result ≡ position_denial position }
-        ensures turned { IfOk result (λ k. k.position ≡ position) }
+        ensures turned { IfOk result (λ k. number_of k.position ≡ position) }
     {
-        if position > 2 {
-            return Err(Denial::OutOfRange);
-        }
-        Ok(Key { position })
+        Ok(Key {
+            position: Position::try_from(position)?,
+        })
     }
 
     /// Denies what an OFF machine does not do.
     pub(crate) fn unless_off(self) -> Result<(), Denial>
-        ensures { refusal result ≡ deny_if (self.position == off) 7 }
+        ensures { refusal result ≡ deny_if (number_of self.position == off) 7 }
     {
-        if self.position == 0 {
-            Err(Denial::KeyOff)
-        } else {
-            Ok(())
+        match self.position {
+            Position::Off => Err(Denial::KeyOff),
+            Position::On | Position::Lock => Ok(()),
         }
     }
 
     /// Denies what only an ON machine does.
     pub(crate) fn unless_closed(self) -> Result<(), Denial>
-        ensures { refusal result ≡ or_else (deny_if (self.position == off) 7) (deny_if (self.position == lock) 8) }
+        ensures { refusal result ≡ or_else (deny_if (number_of self.position == off) 7) (deny_if (number_of self.position == lock) 8) }
     {
         match self.position {
-            0 => Err(Denial::KeyOff),
-            2 => Err(Denial::KeyLocked),
-            _ => Ok(()),
+            Position::Off => Err(Denial::KeyOff),
+            Position::On => Ok(()),
+            Position::Lock => Err(Denial::KeyLocked),
         }
     }
 }
@@ -63,18 +99,18 @@ impl Key {
 /// Holds the key ON; when it is dropped, the key is back where it was.
 pub(crate) struct KeyGuard<'a> {
     key: &'a mut Key,
-    before: u8,
+    before: Position,
 }
 
 impl<'a> KeyGuard<'a> {
     /// Turns the key ON.
     pub(crate) fn turn_on(key: &'a mut Key) -> KeyGuard<'a>
         ensures before { result.before ≡ key.old.position }
-        ensures on { result.key.now.position ≡ on }
+        ensures on { result.key.now.position ≡ Position.On }
         ensures same { result.key.ghost_name ≡ key.entry.ghost_name }
     {
         let before = key.position;
-        key.position = 1;
+        key.position = Position::On;
         KeyGuard { key, before }
     }
 }

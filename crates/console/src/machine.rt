@@ -3,11 +3,12 @@ ghost use Rattle.queue.specs.Rows.{capacity};
 ghost use Rattle.model.specs.Console.{made as made_desk, turn_key, initialise, examine, deposit, set_item, show_item};
 ghost use Rattle.model.specs.Runs.{StepsSplit};
 ghost use Rattle.instructions.specs.Instructions.{instruction};
+ghost use Rattle.console.specs.Keys.{number_of};
 ghost use Rattle.console.specs.Tape.{Plays};
 ghost use Rattle.console.specs.View.{desk_of, done_by, shown_by, stepped_by, ran_by, Says, Steps, Runs};
 
 use crate::key::Key;
-use crate::registers_at::{check_item, item_in, set_item};
+use crate::registers_at::{item_in, set_item};
 use crate::runs::{check_room, run_at};
 use crate::store_at::{deposit_at, place_at};
 use crate::tapes::play_on;
@@ -70,8 +71,7 @@ impl<S: Store, B: Bus> Machine<S, B> {
         ensures { Says S.Store.meaning B.Bus.devices (deposit address word) self.old (done_by result) self.new }
     {
         self.key.unless_closed()?;
-        deposit_at(&mut self.core, address, word)?;
-        Ok(())
+        deposit_at(&mut self.core, address, word)
     }
 
     /// Gives a register another number.
@@ -79,8 +79,7 @@ impl<S: Store, B: Bus> Machine<S, B> {
         ensures { Says S.Store.meaning B.Bus.devices (set_item item value) self.old (done_by result) self.new }
     {
         self.key.unless_closed()?;
-        set_item(&mut self.core, item, value)?;
-        Ok(())
+        set_item(&mut self.core, item, value)
     }
 
     /// The number in a register.
@@ -89,8 +88,7 @@ impl<S: Store, B: Bus> Machine<S, B> {
         ensures same { self.new ≡ self.old }
     {
         self.key.unless_closed()?;
-        check_item(item)?;
-        Ok(item_in(&self.core, item))
+        item_in(&self.core, item)
     }
 
     /// Makes one step; an interrupt adds a record to the trace.
@@ -112,8 +110,7 @@ impl<S: Store, B: Bus> Machine<S, B> {
         ensures room { capacity trace.new ≡ capacity trace.old }
     {
         self.key.unless_off()?;
-        let answer = run_at(&mut self.core, count, trace)?;
-        Ok(answer)
+        run_at(&mut self.core, count, trace)
     }
 
     /// Plays a tape with the key ON; answers the number of commands obeyed. The key is back where it was, however the tape ends.
@@ -139,8 +136,8 @@ impl<S: Store, B: Bus> Machine<S, B> {
 
     /// The position of the key: a question that changes nothing.
     pub fn key_position(&self) -> u8
-        ensures { result ≡ self.now.key.position }
+        ensures { result ≡ number_of self.now.key.position }
     {
-        self.key.position()
+        u8::from(self.key.position())
     }
 }

@@ -1,4 +1,4 @@
-ghost use Rattle.std.specs.Prelude.{◌≡◌, None, Ok, Err};
+ghost use Rattle.std.specs.Prelude.{◌≡◌, IfOk, OnOk, OnErr};
 ghost use Rattle.model.specs.Status.{no_set};
 ghost use Rattle.model.specs.Console.{or_else, item_denial, value_denial, item_of, with_item};
 ghost use Rattle.processor.specs.View.{state_of};
@@ -13,6 +13,7 @@ use registers::words::ProgramAddress;
 use store::meaning::Store;
 
 /// Whether there is no register set of a number.
+#[tactic(auto, unfolding(model::specs::Status::no_set))]
 fn no_set(set: u8) -> bool
     ensures { result ≡ no_set set }
 {
@@ -20,91 +21,59 @@ fn no_set(set: u8) -> bool
 }
 
 /// Denies a register that is not there.
-pub(crate) fn check_item(item: Item) -> Result<(), Denial>
+fn check_item(item: Item) -> Result<(), Denial>
     ensures { refusal result ≡ item_denial item }
 {
     match item {
-        Item::General(set, number) => {
-            if no_set(set) || number >= 16 {
-                Err(Denial::NoRegister)
-            } else {
-                Ok(())
-            }
-        }
-        Item::Segment(number) => {
-            if number >= 16 {
-                Err(Denial::NoRegister)
-            } else {
-                Ok(())
-            }
-        }
-        Item::Status => Ok(()),
-        Item::Location => Ok(()),
+        Item::General(set, _) if no_set(set) => Err(Denial::NoRegister),
+        Item::General(_, 16..) | Item::Segment(16..) => Err(Denial::NoRegister),
+        _ => Ok(()),
     }
 }
 
 /// Denies a number that a register does not take.
-pub(crate) fn check_value(item: Item, value: u32) -> Result<(), Denial>
+fn check_value(item: Item, value: u32) -> Result<(), Denial>
     ensures { refusal result ≡ value_denial item value }
 {
     match item {
-        Item::General(_, _) => Ok(()),
-        Item::Segment(_) => {
-            if used_bits(value) == value {
-                Ok(())
-            } else {
-                Err(Denial::OutOfRange)
-            }
-        }
-        Item::Status => Ok(()),
-        Item::Location => {
-            if is_strange(value) {
-                Err(Denial::OutOfRange)
-            } else {
-                Ok(())
-            }
-        }
+        Item::Segment(_) if used_bits(value) != value => Err(Denial::OutOfRange),
+        Item::Location if is_strange(value) => Err(Denial::OutOfRange),
+        _ => Ok(()),
     }
 }
 
-/// The number in a register that is there.
-pub(crate) fn item_in<S: Store, B: Bus>(core: &Core<S, B>, item: Item) -> u32
-    requires { item_denial item ≡ None }
-    ensures { result ≡ item_of item (state_of S.Store.meaning B.Bus.devices core.now) }
+/// The number in a register.
+pub(crate) fn item_in<S: Store, B: Bus>(core: &Core<S, B>, item: Item) -> Result<u32, Denial>
+    ensures refused { refusal result ≡ item_denial item }
+    ensures found { IfOk result (λ v. v ≡ item_of item (state_of S.Store.meaning B.Bus.devices core.now)) }
 {
-    match item {
+    check_item(item)?;
+    Ok(match item {
         Item::General(set, number) => core.general(set, number),
         Item::Segment(number) => core.segment(number),
         Item::Status => core.psw().status(),
         Item::Location => core.psw().location().number(),
-    }
-}
-
-/// Gives a register that is there a number that it takes.
-fn put_item<S: Store, B: Bus>(core: &mut Core<S, B>, item: Item, value: u32)
-    requires there { item_denial item ≡ None }
-    requires fits { value_denial item value ≡ None }
-    ensures { state_of S.Store.meaning B.Bus.devices core.new ≡ with_item item value (state_of S.Store.meaning B.Bus.devices core.old) }
-{
-    match item {
-        Item::General(set, number) => core.set_general(set, number, value),
-        Item::Segment(number) => core.set_segment(number, value),
-        Item::Status => core.load_status(value),
-        Item::Location => core.load_location(ProgramAddress::new(value)),
-    }
+    })
 }
 
 /// Gives a register another number.
+#[tactic(auto, using(crate::proofs::Locations::location_same))]
 pub(crate) fn set_item<S: Store, B: Bus>(
     core: &mut Core<S, B>,
     item: Item,
     value: u32,
 ) -> Result<(), Denial>
     ensures refused { refusal result ≡ or_else (item_denial item) (value_denial item value) }
-    ensures does { elim result [ Ok u ↦ state_of S.Store.meaning B.Bus.devices core.new ≡ with_item item value (state_of S.Store.meaning B.Bus.devices core.old) | Err e ↦ core.new ≡ core.old ] }
+    ensures does { OnOk result (state_of S.Store.meaning B.Bus.devices core.new ≡ with_item item value (state_of S.Store.meaning B.Bus.devices core.old)) }
+    ensures same { OnErr result (core.new ≡ core.old) }
 {
     check_item(item)?;
     check_value(item, value)?;
-    put_item(core, item, value);
+    match item {
+        Item::General(set, number) => core.set_general(set, number, value),
+        Item::Segment(number) => core.set_segment(number, value),
+        Item::Status => core.load_status(value),
+        Item::Location => core.load_location(ProgramAddress::new(value)),
+    }
     Ok(())
 }

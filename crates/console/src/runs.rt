@@ -1,4 +1,4 @@
-ghost use Rattle.std.specs.Prelude.{◌≡◌, ◌-◌, length, Ok, Err};
+ghost use Rattle.std.specs.Prelude.{◌≡◌, ◌-◌, length, MatchResult};
 ghost use Rattle.queue.specs.Rows.{queued, capacity};
 ghost use Rattle.model.specs.Console.{or_else, room_denial};
 ghost use Rattle.model.specs.Runs.{count_denial};
@@ -42,7 +42,7 @@ pub(crate) fn run_at<S: Store, B: Bus>(
     trace: &mut Queue<'_, Record>,
 ) -> Result<RunAnswer, Denial>
     ensures refused { refusal result ≡ or_else (count_denial instruction count) (room_denial (capacity trace.old - length (queued trace.old))) }
-    ensures does { elim result [ Ok a ↦ Runs S.Store.meaning B.Bus.devices count a.steps a.reason core.old trace.old core.new trace.new | Err e ↦ (core.new ≡ core.old) × (queued trace.new ≡ queued trace.old) ] }
+    ensures does { MatchResult result (λ a. Runs S.Store.meaning B.Bus.devices count a.steps a.reason core.old trace.old core.new trace.new) (λ _. (core.new ≡ core.old) × (queued trace.new ≡ queued trace.old)) }
     ensures same { trace.new.slots.ghost_name ≡ trace.old.slots.ghost_name }
     ensures room { capacity trace.new ≡ capacity trace.old }
 {

@@ -1,4 +1,4 @@
-ghost use Rattle.std.specs.Prelude.{◌≡◌, ◌/◌, IfOk, Ok, Err};
+ghost use Rattle.std.specs.Prelude.{◌≡◌, ◌/◌, ◌^◌, ◌<◌, IfOk, OnOk, OnErr};
 ghost use Rattle.model.specs.Stores.{stored};
 ghost use Rattle.model.specs.States.{with_store};
 ghost use Rattle.model.specs.Console.{or_else, strange, place_denial, fixed_denial};
@@ -11,6 +11,7 @@ use processor::cpu::Core;
 use store::meaning::Store;
 
 /// Whether an address is odd or over X'FFFFF'.
+#[tactic(auto, unfolding(model::specs::Console::strange))]
 pub(crate) fn is_strange(address: u32) -> bool
     ensures { result ≡ strange address }
 {
@@ -27,23 +28,25 @@ pub(crate) fn place_at<S: Store, B: Bus>(core: &Core<S, B>, address: u32) -> Res
     }
     let place = (address / 2) as usize;
     match core.kind(place) {
-        Kind::Writable => Ok(place),
-        Kind::Fixed => Ok(place),
+        Kind::Writable | Kind::Fixed => Ok(place),
         Kind::Unfitted => Err(Denial::NoPlace),
     }
 }
 
 /// Writes a halfword at a real address, in the store.
+#[tactic(auto, unfolding(model::specs::Console::strange))]
 pub(crate) fn deposit_at<S: Store, B: Bus>(
     core: &mut Core<S, B>,
     address: u32,
     word: u16,
 ) -> Result<(), Denial>
     ensures refused { refusal result ≡ or_else (place_denial address (S.Store.meaning core.old.store)) (fixed_denial address (S.Store.meaning core.old.store)) }
-    ensures does { elim result [ Ok u ↦ state_of S.Store.meaning B.Bus.devices core.new ≡ with_store (stored (S.Store.meaning core.old.store) (address / 2) word) (state_of S.Store.meaning B.Bus.devices core.old) | Err e ↦ core.new ≡ core.old ] }
+    ensures does { OnOk result (state_of S.Store.meaning B.Bus.devices core.new ≡ with_store (stored (S.Store.meaning core.old.store) (address / 2) word) (state_of S.Store.meaning B.Bus.devices core.old)) }
+    ensures same { OnErr result (core.new ≡ core.old) }
+    ensures low { IfOk result (λ _. address < 2 ^ 20) }
 {
     let place = place_at(core, address)?;
-    if let Kind::Fixed = core.kind(place) {
+    if core.kind(place) == Kind::Fixed {
         return Err(Denial::FixedPlace);
     }
     core.deposit(place, word);

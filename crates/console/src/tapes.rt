@@ -28,14 +28,8 @@ fn obey<S: Store, B: Bus>(
 {
     match order {
         Order::Point => Ok(()),
-        Order::Deposit(address, word) => {
-            deposit_at(core, address, word)?;
-            Ok(())
-        }
-        Order::Set(item, value) => {
-            set_item(core, item, value)?;
-            Ok(())
-        }
+        Order::Deposit(address, word) => deposit_at(core, address, word),
+        Order::Set(item, value) => set_item(core, item, value),
         Order::Go(count) => {
             run_at(core, count, trace)?;
             Ok(())
@@ -48,33 +42,20 @@ fn obey_next<'t, S: Store, B: Bus>(
     core: &mut Core<S, B>,
     letter: u8,
     bytes: &'t [u8],
-    place: usize,
     address: u32,
     trace: &mut Queue<'_, Record>,
-) -> Result<Command<'t>, Located>
+) -> Result<Command<'t>, Denial>
     requires { address ≤ 2 ^ 24 }
     ensures does { MatchResult result
-        (λ c. Advances S.Store.meaning B.Bus.devices letter bytes.now place address core.old trace.old c.rest.now c.next core.new trace.new)
-        (λ l. StopsAt S.Store.meaning B.Bus.devices letter bytes.now place address core.old trace.old l core.new trace.new) }
+        (λ c. Advances S.Store.meaning B.Bus.devices letter bytes.now address core.old trace.old c.rest.now c.next core.new trace.new)
+        (λ d. StopsAt S.Store.meaning B.Bus.devices letter bytes.now address core.old trace.old d core.new trace.new) }
     ensures low { IfOk result (λ c. (c.next ≤ 2 ^ 24) × (length c.rest.now ≤ length bytes.now)) }
     ensures same { trace.new.slots.ghost_name ≡ trace.old.slots.ghost_name }
     ensures room { capacity trace.new ≡ capacity trace.old }
 {
-    match read_command(letter, address, bytes) {
-        Ok(command) => match obey(core, command.order, trace) {
-            Ok(()) => Ok(command),
-            Err(denial) => Err(Located {
-                denial,
-                place,
-                letter,
-            }),
-        },
-        Err(denial) => Err(Located {
-            denial,
-            place,
-            letter,
-        }),
-    }
+    let command = read_command(letter, address, bytes)?;
+    obey(core, command.order, trace)?;
+    Ok(command)
 }
 
 /// Obeys the commands of a tape, up to the first that is denied.
@@ -88,12 +69,16 @@ fn obey_all<S: Store, B: Bus>(
     ensures room { capacity trace.new ≡ capacity trace.old }
 {
     let mut rest = tape;
-    let mut place = 0;
     let mut address = 0;
     let mut obeyed = 0;
     while let [letter, bytes @ ..] = rest {
-        let command = obey_next(core, *letter, bytes, place, address, trace)?;
-        place += 1 + (bytes.len() - command.rest.len());
+        let place = tape.len() - rest.len();
+        let letter = *letter;
+        let command = obey_next(core, letter, bytes, address, trace).map_err(|denial| Located {
+            denial,
+            place,
+            letter,
+        })?;
         address = command.next;
         obeyed += 1;
         rest = command.rest;
@@ -114,6 +99,5 @@ pub(crate) fn play_on<S: Store, B: Bus>(
     ensures room { capacity trace.new ≡ capacity trace.old }
 {
     let _guard = KeyGuard::turn_on(key);
-    let obeyed = obey_all(core, tape, trace)?;
-    Ok(obeyed)
+    obey_all(core, tape, trace)
 }
