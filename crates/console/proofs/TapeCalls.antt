@@ -1,6 +1,7 @@
 -- A tape, command by command.
-use Rattle.std.proofs.Common.{◌≡◌, ℕ, zero, suc, ◌+◌, ◌-◌, ◌^◌, ◌<◌, ◌≤◌, Bool, true, false, cond, ltb, List, [], ◌∷◌, length, get_or, take, drop, Some, None, Ok, Err, Option, Result, MatchResult, sym, refl, ap, ◌∙◌, subst, add-zero, arith, length-drop, rules}
+use Rattle.std.proofs.Common.{◌≡◌, ℕ, zero, suc, ◌+◌, ◌-◌, ◌^◌, ◌<◌, ◌≤◌, Bool, true, false, cond, ltb, List, [], ◌∷◌, length, get_or, take, drop, Some, None, Ok, Err, Option, Result, MatchResult, IsErrAnd, sym, refl, ap, ◌∙◌, subst, add-zero, arith, length-drop, rules}
 use Rattle.std.proofs.lemmas.List.{drop_more, take_rest, nil_from_length}
+use Rattle.std.proofs.lemmas.Result.{err_from_is_err_and}
 use Rattle.queue.specs.declared.Queue.{Queue}
 use Rattle.queue.specs.Rows.{queued, capacity}
 use Rattle.model.specs.declared.Denial.{Denial}
@@ -55,6 +56,15 @@ spell_broken letter a n place bytes h = here letter bytes place a ∙ h place (�
 -- What is told of an error.
 pub stopped : {X Y : Type 0} (P : X → Type 0) (Q : Y → Type 0) (r : Result X Y) (d : Y) → r ≡ Err d → Q d → MatchResult r P Q
 stopped P Q r d e q = subst (λ x. MatchResult x P Q) (sym e) q
+
+-- A result whose error is mapped.
+pub mapped_ok : {X Y Z : Type 0} (P : Y → Z → Type 0) (r : Result X Y) (s : Result X Z) (x : X) → MatchResult r (λ y. s ≡ Ok y) (λ e. IsErrAnd s (P e)) → s ≡ Ok x → r ≡ Ok x
+mapped_ok {X} {Y} {Z} P (Ok y) s x m e = let f : ◌≡◌ {A = Result X Z} (Ok y) (Ok x) = sym m ∙ e in cc
+mapped_ok P (Err y) s x m e = let n = err_from_is_err_and s m in absurd (cc)
+
+pub mapped_err : {X Y Z : Type 0} (P : Y → Z → Type 0) (r : Result X Y) (s : Result X Z) (z : Z) → MatchResult r (λ y. s ≡ Ok y) (λ e. IsErrAnd s (P e)) → s ≡ Err z → (y : Y) × (r ≡ Err y) × P y z
+mapped_err P (Ok y) s z m e = absurd (cc)
+mapped_err P (Err y) s z m e = (y, refl, subst (λ v. IsErrAnd v (P y)) e m)
 
 -- A command that the bytes hold whole is known.
 pub held : (c : Command) (bytes : List ℕ) (o : Order) (next : ℕ) (rest : List ℕ) → Holds c bytes o next rest → (size : ℕ) × (c ≡ known size o next) × (size ≤ length bytes) × (rest ≡ drop size bytes)

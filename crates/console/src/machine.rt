@@ -1,5 +1,5 @@
 ghost use Rattle.std.specs.Prelude.{◌≡◌};
-ghost use Rattle.queue.specs.Rows.{capacity};
+ghost use Rattle.queue.specs.Rows.{SameSlots};
 ghost use Rattle.model.specs.Console.{made as made_desk, turn_key, initialise, examine, deposit, set_item, show_item};
 ghost use Rattle.model.specs.Runs.{StepsSplit};
 ghost use Rattle.instructions.specs.Instructions.{instruction};
@@ -94,8 +94,7 @@ impl<S: Store, B: Bus> Machine<S, B> {
     /// Makes one step; an interrupt adds a record to the trace.
     pub fn step(&mut self, trace: &mut Queue<'_, Record>) -> Result<StepAnswer, Denial>
         ensures says { Steps S.Store.meaning B.Bus.devices self.old trace.old (stepped_by result) self.new trace.new }
-        ensures same { trace.new.slots.ghost_name ≡ trace.old.slots.ghost_name }
-        ensures room { capacity trace.new ≡ capacity trace.old }
+        ensures same { SameSlots trace.old trace.new }
     {
         self.key.unless_off()?;
         check_room(trace)?;
@@ -106,8 +105,7 @@ impl<S: Store, B: Bus> Machine<S, B> {
     pub fn run(&mut self, count: u32, trace: &mut Queue<'_, Record>) -> Result<RunAnswer, Denial>
         ensures says { Runs S.Store.meaning B.Bus.devices count self.old trace.old (ran_by result) self.new trace.new }
         ensures splits { StepsSplit instruction }
-        ensures same { trace.new.slots.ghost_name ≡ trace.old.slots.ghost_name }
-        ensures room { capacity trace.new ≡ capacity trace.old }
+        ensures same { SameSlots trace.old trace.new }
     {
         self.key.unless_off()?;
         run_at(&mut self.core, count, trace)
@@ -117,8 +115,7 @@ impl<S: Store, B: Bus> Machine<S, B> {
     pub fn play(&mut self, tape: &[u8], trace: &mut Queue<'_, Record>) -> Result<usize, TapeFault>
         ensures says { Plays S.Store.meaning B.Bus.devices tape.now self.old trace.old result self.new trace.new }
         ensures key { self.new.key ≡ self.old.key }
-        ensures same { trace.new.slots.ghost_name ≡ trace.old.slots.ghost_name }
-        ensures room { capacity trace.new ≡ capacity trace.old }
+        ensures same { SameSlots trace.old trace.new }
     {
         self.key.unless_off()?;
         let mut key = self.key;

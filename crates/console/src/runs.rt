@@ -1,5 +1,5 @@
 ghost use Rattle.std.specs.Prelude.{◌≡◌, ◌-◌, length, MatchResult};
-ghost use Rattle.queue.specs.Rows.{queued, capacity};
+ghost use Rattle.queue.specs.Rows.{queued, capacity, SameSlots};
 ghost use Rattle.model.specs.Console.{or_else, room_denial};
 ghost use Rattle.model.specs.Runs.{count_denial};
 ghost use Rattle.instructions.specs.Instructions.{instruction};
@@ -43,8 +43,7 @@ pub(crate) fn run_at<S: Store, B: Bus>(
 ) -> Result<RunAnswer, Denial>
     ensures refused { refusal result ≡ or_else (count_denial instruction count) (room_denial (capacity trace.old - length (queued trace.old))) }
     ensures does { MatchResult result (λ a. Runs S.Store.meaning B.Bus.devices count a.steps a.reason core.old trace.old core.new trace.new) (λ _. (core.new ≡ core.old) × (queued trace.new ≡ queued trace.old)) }
-    ensures same { trace.new.slots.ghost_name ≡ trace.old.slots.ghost_name }
-    ensures room { capacity trace.new ≡ capacity trace.old }
+    ensures same { SameSlots trace.old trace.new }
 {
     check_count(count)?;
     check_room(trace)?;

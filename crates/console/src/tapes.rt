@@ -1,5 +1,5 @@
 ghost use Rattle.std.specs.Prelude.{◌≡◌, ◌^◌, ◌≤◌, length, IfOk, MatchResult};
-ghost use Rattle.queue.specs.Rows.{capacity};
+ghost use Rattle.queue.specs.Rows.{SameSlots};
 ghost use Rattle.console.specs.Tape.{Obeyed, Low, Played, Advances, StopsAt};
 
 use crate::key::{Key, KeyGuard};
@@ -23,8 +23,7 @@ fn obey<S: Store, B: Bus>(
 ) -> Result<(), Denial>
     ensures does { Obeyed S.Store.meaning B.Bus.devices order core.old trace.old result core.new trace.new }
     ensures low { Low order result }
-    ensures same { trace.new.slots.ghost_name ≡ trace.old.slots.ghost_name }
-    ensures room { capacity trace.new ≡ capacity trace.old }
+    ensures same { SameSlots trace.old trace.new }
 {
     match order {
         Order::Point => Ok(()),
@@ -50,8 +49,7 @@ fn obey_next<'t, S: Store, B: Bus>(
         (λ c. Advances S.Store.meaning B.Bus.devices letter bytes.now address core.old trace.old c.rest.now c.next core.new trace.new)
         (λ d. StopsAt S.Store.meaning B.Bus.devices letter bytes.now address core.old trace.old d core.new trace.new) }
     ensures low { IfOk result (λ c. (c.next ≤ 2 ^ 24) × (length c.rest.now ≤ length bytes.now)) }
-    ensures same { trace.new.slots.ghost_name ≡ trace.old.slots.ghost_name }
-    ensures room { capacity trace.new ≡ capacity trace.old }
+    ensures same { SameSlots trace.old trace.new }
 {
     let command = read_command(letter, address, bytes)?;
     obey(core, command.order, trace)?;
@@ -65,8 +63,7 @@ fn obey_all<S: Store, B: Bus>(
     trace: &mut Queue<'_, Record>,
 ) -> Result<usize, TapeFault>
     ensures played { Played S.Store.meaning B.Bus.devices tape.now core.old trace.old result core.new trace.new }
-    ensures same { trace.new.slots.ghost_name ≡ trace.old.slots.ghost_name }
-    ensures room { capacity trace.new ≡ capacity trace.old }
+    ensures same { SameSlots trace.old trace.new }
 {
     let mut rest = tape;
     let mut address = 0;
@@ -95,8 +92,7 @@ pub(crate) fn play_on<S: Store, B: Bus>(
 ) -> Result<usize, TapeFault>
     ensures back { key.new ≡ key.old }
     ensures played { Played S.Store.meaning B.Bus.devices tape.now core.old trace.old result core.new trace.new }
-    ensures same { trace.new.slots.ghost_name ≡ trace.old.slots.ghost_name }
-    ensures room { capacity trace.new ≡ capacity trace.old }
+    ensures same { SameSlots trace.old trace.new }
 {
     let _guard = KeyGuard::turn_on(key);
     obey_all(core, tape, trace)

@@ -1,9 +1,13 @@
 -- Steps that nothing stops, one more at their end.
-use Rattle.std.proofs.Common.{ℕ, zero, suc, ◌+◌, List, sym, refl, subst, add-zero, add-suc, add-one}
+use Rattle.std.proofs.Common.{◌≡◌, ℕ, zero, suc, ◌+◌, ◌<◌, Bool, true, false, List, length, Some, None, sym, refl, subst, add-zero, add-suc, add-one, arith, rules}
+use Rattle.std.specs.Prelude.{nat_le}
 use Rattle.model.specs.declared.Record.{Record}
+use Rattle.model.specs.declared.StepAnswer.{StepAnswer}
+use Rattle.model.specs.declared.StepAnswer.TheVariants.{Done, Waiting, Interrupted}
+use Rattle.model.specs.declared.Reason.TheVariants.{Counted}
 use Rattle.model.specs.States.{State}
 use Rattle.model.specs.Effects.{Prog}
-use Rattle.model.specs.Runs.{Steps, Onward, StepsSplit}
+use Rattle.model.specs.Runs.{stops_by, Steps, Onward, Ran, StepsSplit}
 
 module _ (meaning : ℕ → Prog) where
   pub no_steps : (cap : ℕ) (s : State) (q : List Record) → Steps meaning cap 0 s q s q
@@ -16,6 +20,30 @@ module _ (meaning : ℕ → Prog) where
 
   pub one_more : (cap n : ℕ) (s u t : State) (q r p : List Record) → Steps meaning cap n s q u r → Onward meaning cap u r t p → Steps meaning cap (n + 1) s q t p
   one_more cap n s u t q r p before one = subst (λ (k : ℕ). Steps meaning cap k s q t p) (sym (add-one n)) (next cap n s u t q r p before one)
+
+  counted : (a : StepAnswer) (full : Bool) (n : ℕ) → stops_by a full false ≡ None → stops_by a full (nat_le n n) ≡ Some Counted
+  counted Done true n e = absurd (cc)
+  counted Done false n e = search rules
+  counted Waiting full n e = absurd (cc)
+  counted (Interrupted c) true n e = absurd (cc)
+  counted (Interrupted c) false n e = search rules
+
+  -- A run whose count is reached.
+  pub all_made : (cap n : ℕ) (s t : State) (q p : List Record) → 0 < n → Steps meaning cap n s q t p → Ran meaning cap n n Counted s q t p
+  unfolding Steps
+  all_made cap zero s t q p some all = absurd (omega arith)
+  all_made cap (suc n) s t q p some all =
+      record {
+        before = n;
+        state = all.0;
+        line = all.1;
+        answer = all.3.answer;
+        made = sym (add-one n);
+        within = omega arith;
+        goes = all.2;
+        last = all.3.moves;
+        stops = counted all.3.answer (nat_le cap (length p)) (suc n) all.3.goes;
+      }
 
   -- m + n steps are m steps and then n steps.
   split : (cap m n : ℕ) (s t : State) (q p : List Record) → Steps meaning cap (m + n) s q t p → (u : State) × (r : List Record) × Steps meaning cap m s q u r × Steps meaning cap n u r t p

@@ -1,5 +1,5 @@
-ghost use Rattle.std.specs.Prelude.{◌≡◌, ◌<◌, length};
-ghost use Rattle.queue.specs.Rows.{queued, capacity};
+ghost use Rattle.std.specs.Prelude.{◌<◌};
+ghost use Rattle.queue.specs.Rows.{HasRoom, SameSlots};
 ghost use Rattle.steps.specs.View.{Runs};
 
 use crate::step::step;
@@ -22,17 +22,15 @@ pub fn run<S: Store, B: Bus>(
     trace: &mut Queue<'_, Record>,
     count: u32,
 ) -> RunAnswer
-    requires room { length (queued trace.old) < capacity trace.old }
+    requires room { HasRoom trace.old }
     requires some { 0 < count }
     ensures does { Runs S.Store.meaning B.Bus.devices count result.steps result.reason m.old trace.old m.new trace.new }
-    ensures same { trace.new.slots.ghost_name ≡ trace.old.slots.ghost_name }
-    ensures room { capacity trace.new ≡ capacity trace.old }
+    ensures same { SameSlots trace.old trace.new }
 {
-    let mut steps = 0;
-    loop {
+    for made in 0..count {
         let answer = step(m, trace);
-        steps += 1;
-        if let StepAnswer::Waiting = answer {
+        let steps = made + 1;
+        if answer == StepAnswer::Waiting {
             return RunAnswer {
                 steps,
                 reason: Reason::Waited,
@@ -44,11 +42,9 @@ pub fn run<S: Store, B: Bus>(
                 reason: Reason::Filled,
             };
         }
-        if steps >= count {
-            return RunAnswer {
-                steps,
-                reason: Reason::Counted,
-            };
-        }
+    }
+    RunAnswer {
+        steps: count,
+        reason: Reason::Counted,
     }
 }

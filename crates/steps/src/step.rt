@@ -1,5 +1,5 @@
-ghost use Rattle.std.specs.Prelude.{◌≡◌, ◌<◌, [], ◌∷◌, ◌++◌, length, None};
-ghost use Rattle.queue.specs.Rows.{queued, capacity};
+ghost use Rattle.std.specs.Prelude.{◌≡◌, [], ◌∷◌, ◌++◌};
+ghost use Rattle.queue.specs.Rows.{queued, HasRoom, SameSlots};
 ghost use Rattle.model.specs.Steps.{took, ended, cycle, proceeded};
 ghost use Rattle.processor.specs.View.{state_of, out₀, Does};
 ghost use Rattle.instructions.specs.Instructions.{instruction};
@@ -15,13 +15,12 @@ use store::meaning::Store;
 
 /// Adds the record of an interrupt to the trace.
 fn note(trace: &mut Queue<'_, Record>, entry: Record) -> StepAnswer
-    requires room { length (queued trace.old) < capacity trace.old }
+    requires room { HasRoom trace.old }
     ensures answer { result ≡ StepAnswer.Interrupted entry.cause }
     ensures noted { queued trace.new ≡ queued trace.old ++ entry ∷ [] }
-    ensures same { trace.new.slots.ghost_name ≡ trace.old.slots.ghost_name }
-    ensures room { capacity trace.new ≡ capacity trace.old }
+    ensures same { SameSlots trace.old trace.new }
 {
-    trace.push(entry);
+    trace.push(entry).unwrap();
     StepAnswer::Interrupted(entry.cause)
 }
 
@@ -32,30 +31,21 @@ fn finish<S: Store, B: Bus>(
     own: ProgramAddress,
     end: Result<(), Trap>,
 ) -> StepAnswer
-    requires room { length (queued trace.old) < capacity trace.old }
+    requires room { HasRoom trace.old }
     ensures does { Ends S.Store.meaning B.Bus.devices (ended own.at (out₀ end (state_of S.Store.meaning B.Bus.devices m.old))) trace.old result m.new trace.new }
     ensures quiet { m.new.bus ≡ m.old.bus }
-    ensures same { trace.new.slots.ghost_name ≡ trace.old.slots.ghost_name }
-    ensures room { capacity trace.new ≡ capacity trace.old }
+    ensures same { SameSlots trace.old trace.new }
 {
+    let next = m.location();
     match end {
-        Ok(()) => {
-            if !m.reports() {
-                return StepAnswer::Done;
-            }
-            let next = m.psw().location();
-            note(trace, m.interrupt(Cause::AccessFault, 0x90, next))
-        }
+        Ok(()) if m.reports() => note(trace, m.interrupt(Cause::AccessFault, 0x90, next)),
         Err(Trap::Illegal) => note(trace, m.interrupt(Cause::IllegalInstruction, 0x30, own)),
-        Err(Trap::Arithmetic) => {
-            if !m.psw().arithmetic_on() {
-                return StepAnswer::Done;
-            }
-            let next = m.psw().location();
+        Err(Trap::Arithmetic) if m.psw().arithmetic_on() => {
             note(trace, m.interrupt(Cause::ArithmeticFault, 0x48, next))
         }
         Err(Trap::Refusal) => note(trace, m.interrupt(Cause::AccessFault, 0x90, own)),
         Err(Trap::Supervisor(number, address)) => note(trace, m.supervise(number, address)),
+        Ok(()) | Err(Trap::Arithmetic) => StepAnswer::Done,
     }
 }
 
@@ -69,15 +59,14 @@ fn fetch_and_execute<S: Store, B: Bus>(m: &mut Core<S, B>) -> Result<(), Trap>
 
 /// A step in which no device is taken.
 fn proceed<S: Store, B: Bus>(m: &mut Core<S, B>, trace: &mut Queue<'_, Record>) -> StepAnswer
-    requires room { length (queued trace.old) < capacity trace.old }
+    requires room { HasRoom trace.old }
     ensures does { Ends S.Store.meaning B.Bus.devices (proceeded instruction (B.Bus.devices m.new.bus) (state_of S.Store.meaning B.Bus.devices m.old)) trace.old result m.new trace.new }
-    ensures same { trace.new.slots.ghost_name ≡ trace.old.slots.ghost_name }
-    ensures room { capacity trace.new ≡ capacity trace.old }
+    ensures same { SameSlots trace.old trace.new }
 {
     if m.psw().waits() {
         return StepAnswer::Waiting;
     }
-    let own = m.psw().location();
+    let own = m.location();
     m.begin();
     let end = fetch_and_execute(m);
     finish(m, trace, own, end)
@@ -85,10 +74,9 @@ fn proceed<S: Store, B: Bus>(m: &mut Core<S, B>, trace: &mut Queue<'_, Record>) 
 
 /// Makes one step, and adds a record to the trace if it takes an interrupt.
 pub fn step<S: Store, B: Bus>(m: &mut Core<S, B>, trace: &mut Queue<'_, Record>) -> StepAnswer
-    requires room { length (queued trace.old) < capacity trace.old }
+    requires room { HasRoom trace.old }
     ensures does { Steps S.Store.meaning B.Bus.devices m.old trace.old result m.new trace.new }
-    ensures same { trace.new.slots.ghost_name ≡ trace.old.slots.ghost_name }
-    ensures room { capacity trace.new ≡ capacity trace.old }
+    ensures same { SameSlots trace.old trace.new }
 {
     if m.psw().polls() {
         if let Some(device) = m.requesting() {

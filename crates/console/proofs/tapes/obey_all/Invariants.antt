@@ -1,5 +1,5 @@
-use Rattle.std.proofs.Common.{◌≡◌, ◌+◌, ◌^◌, ◌≤◌, List, length}
-use Rattle.queue.specs.Rows.{queued, capacity}
+use Rattle.std.proofs.Common.{◌-◌, ◌+◌, ◌^◌, ◌≤◌, List, length}
+use Rattle.queue.specs.Rows.{queued, capacity, SameSlots}
 use Rattle.model.specs.declared.Record.{Record}
 use Rattle.model.specs.Answers.{Answer}
 use Rattle.model.specs.Console.{Desk}
@@ -11,16 +11,17 @@ use Rattle.console.proofs.tapes.obey_all.Given as goal
 -- as the tape goes on from here, so it goes from its beginning
 abbrev pub invariant-loop-rest : goal.invariant-loop-rest
 invariant-loop-rest g l =
-    ((x : Answer) (v : Desk) (p : List Record) →
-    Playing instruction (capacity l.initial.trace) (spell_from l.rest 0 l.place l.address) l.obeyed
-    (on_desk g.S.Store.meaning g.B.Bus.devices l.core) (queued l.trace) x v p →
-    Playing instruction (capacity l.initial.trace) (spell l.tape) 0
-    (on_desk g.S.Store.meaning g.B.Bus.devices l.initial.core) (queued l.initial.trace) x v p)
-    × (l.address ≤ 2 ^ 24)
-    × (l.place + length l.rest ≡ length l.tape)
-    × (l.obeyed ≤ l.place)
-    × (capacity l.trace ≡ capacity l.initial.trace)
-    × (l.trace.slots.ghost_name ≡ l.initial.trace.slots.ghost_name)
+    record {
+      goes :
+          (x : Answer) (v : Desk) (p : List Record) →
+          Playing instruction (capacity l.initial.trace) (spell_from l.rest 0 (length l.tape - length l.rest) l.address) l.obeyed
+          (on_desk g.S.Store.meaning g.B.Bus.devices l.core) (queued l.trace) x v p →
+          Playing instruction (capacity l.initial.trace) (spell l.tape) 0
+          (on_desk g.S.Store.meaning g.B.Bus.devices l.initial.core) (queued l.initial.trace) x v p;
+      low : l.address ≤ 2 ^ 24;
+      part : l.obeyed + length l.rest ≤ length l.tape;
+      same : SameSlots l.initial.trace l.trace;
+    }
 
 abbrev pub decreases-loop-rest : goal.decreases-loop-rest
 decreases-loop-rest g l = length l.rest

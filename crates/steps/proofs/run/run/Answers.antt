@@ -1,9 +1,12 @@
 use Rattle.std.proofs.Common.{rules}
-use Rattle.steps.proofs.Chains.{no_steps, one_more}
+use Rattle.steps.proofs.Chains.{no_steps, one_more, all_made}
 use Rattle.steps.proofs.run.run.Goals as goal
 
-pub loop-trace-init : goal.loop-trace-init
-loop-trace-init g c = search (rules, no_steps)
+pub loop-made-init : goal.loop-made-init
+loop-made-init g c = search (rules, no_steps)
 
-pub loop-trace-preserved : goal.loop-trace-preserved
-loop-trace-preserved g c = search (rules, one_more)
+pub loop-made-preserved : goal.loop-made-preserved
+loop-made-preserved g c = search (rules, one_more)
+
+pub returns : goal.returns
+returns g c = search (rules, all_made)

@@ -6,7 +6,7 @@ use Rattle.console.proofs.machine.Machine.play.Goals as goal
 
 pub returns-in_err-unless_off : goal.returns-in_err-unless_off
 returns-in_err-unless_off g c =
-    record { says = play_off instruction _ 7 _ _ _ _ _ _ _ (search rules) (search rules) (search rules) (search rules); key = search rules; same = search rules; room = search rules }
+    record { says = play_off instruction _ 7 _ _ _ _ _ _ _ (search rules) (search rules) (search rules) (search rules); key = search rules; same = search rules }
 
 pub returns : goal.returns
 returns g c =
@@ -14,5 +14,4 @@ returns g c =
       says = play_made instruction _ _ _ _ (on_desk g.S.Store.meaning g.B.Bus.devices c.play_on-answer.new.core) _ _ _ _ (search rules) c.play_on-answer.ensures.played (search rules);
       key = search rules;
       same = search rules;
-      room = search rules;
     }

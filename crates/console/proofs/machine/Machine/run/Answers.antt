@@ -1,18 +1,18 @@
-use Rattle.std.proofs.Common.{refl, rules}
-use Rattle.model.specs.Answers.{number}
+use Rattle.std.proofs.Common.{refl, ap, rules}
+use Rattle.std.proofs.lemmas.Result.{MatchResult-weaker}
 use Rattle.instructions.specs.Instructions.{instruction}
 use Rattle.steps.proofs.Chains.{steps_split}
-use Rattle.console.proofs.RunCalls.{run_denied, run_made}
+use Rattle.console.proofs.RunCalls.{run_denied, run_said}
 use Rattle.console.proofs.machine.Machine.run.Goals as goal
 
 pub returns-in_err-unless_off : goal.returns-in_err-unless_off
 returns-in_err-unless_off g c =
-    record { says = run_denied instruction _ 7 _ _ _ _ _ _ _ (search rules) (search rules) (search rules) (search rules); splits = steps_split instruction; same = search rules; room = search rules }
-
-pub returns-in_err-answer : goal.returns-in_err-answer
-returns-in_err-answer g c =
-    record { says = run_denied instruction _ (number c.in_err-answer.field-0.0) _ _ _ _ _ _ _ (search rules) (search rules) (search rules) (search rules); splits = steps_split instruction; same = search rules; room = search rules }
+    record { says = run_denied instruction _ 7 _ _ _ _ _ _ _ (search rules) (search rules) (search rules) (search rules); splits = steps_split instruction; same = search rules }
 
 pub returns : goal.returns
 returns g c =
-    record { says = run_made instruction _ _ _ _ _ _ _ _ _ _ (search rules) refl refl c.in_ok-answer.ensures.does; splits = steps_split instruction; same = search rules; room = search rules }
+    record {
+      says = run_said instruction _ _ _ _ _ c.run_at.result _ _ (search rules) (MatchResult-weaker c.run_at.result c.run_at.ensures.does (λ a h. (refl, h)) (λ _ h. (search (rules, h.0), h.1)));
+      splits = steps_split instruction;
+      same = search rules;
+    }
