@@ -1,7 +1,9 @@
 -- Histories and lists that go on by one call.
-use Rattle.std.proofs.Common.{◌≡◌, ℕ, ◌+◌, ◌<◌, Bool, true, false, List, [], ◌∷◌, ◌++◌, map, length, get_or, take, Some, None, Option, sym, refl, ap, ◌∙◌, subst, arith}
+use Rattle.std.proofs.Common.{◌≡◌, ℕ, ◌+◌, ◌<◌, Bool, true, false, List, [], ◌∷◌, ◌++◌, map, length, get_or, take, Some, None, Ok, Err, Option, Result, sym, refl, ap, ◌∙◌, subst, arith}
 use mathlib.Core.Bool.{false≢true}
 use Rattle.std.proofs.lemmas.List.{take_more, map_push}
+use Rattle.std.specs.Result.{result_ok}
+use Rattle.model.specs.declared.Denial.{Denial}
 use Rattle.model.specs.declared.Record.{Record}
 use Rattle.model.specs.declared.StepAnswer.{StepAnswer}
 use Rattle.model.specs.declared.StepAnswer.TheVariants.{Done, Waiting, Interrupted}
@@ -10,13 +12,15 @@ use Rattle.model.specs.Buses.{Bus}
 use Rattle.model.specs.States.{State}
 use Rattle.model.specs.Steps.{Ending, finished, waiting, took, stepped as step_of}
 use Rattle.model.specs.Answers.{Answer, denied, done, shown, stepped, ran, played, faulted}
-use Rattle.model.specs.Console.{Desk, did_step, unless_denied, denial, Act, call, told, tell, Told}
+use Rattle.model.specs.Console.{Desk, made, did_step, unless_denied, denial, Act, call, told, tell, Told}
 use Rattle.instructions.specs.Instructions.{instruction}
-use Rattle.isolation.specs.Calls.{Reached, called, ran as by_run, played as by_tape, Continued, step, Event, unseen, answered, interrupted, seen, Course, quiet, broken, ahead, joined, after, event, course}
+use Rattle.console.specs.View.{stepped_by}
+use Rattle.isolation.specs.Calls.{Reached, new, called, ran as by_run, played as by_tape, Continued, step, Event, unseen, answered, interrupted, seen, Course, quiet, broken, ahead, joined, after, event, course}
+use Rattle.isolation.proofs.Whole.{isolation}
 use Rattle.comparison.specs.declared.calls.Call.{Call}
 use Rattle.comparison.specs.declared.calls.Call.TheVariants.{TurnKey, Initialise, Examine, Deposit, Set, Show, Step, Run, Play}
 use Rattle.comparison.specs.declared.calls.Continued.{Continued as Asking}
-use Rattle.comparison.specs.Lists.{Performs, PerformsAll, AskedAs, AllAsked, is_interrupt, Reports, FollowedOne, Noted, after_all, Tells, Followed}
+use Rattle.comparison.specs.Lists.{Performs, PerformsAll, AskedAs, AllAsked, is_interrupt, Reports, FollowedOne, Noted, after_all, Tells, Followed, Gone, Compared}
 
 -- ── Histories ──
 performs_none : (w : Desk) → PerformsAll [] w w
@@ -51,6 +55,10 @@ reported (Some n) w e = refl
 reported None w (finished s) = (Done, refl, refl, refl)
 reported None w (waiting s) = (Waiting, refl, refl, refl)
 reported None w (took r s) = (Interrupted r.cause, refl, refl, refl)
+
+pub told_ok : (r : Result StepAnswer Denial) (o : Option StepAnswer) → o ≡ result_ok r → told_of (stepped_by r) ≡ o
+told_ok (Ok a) o e = sym e
+told_ok (Err d) o e = sym e
 
 abbrev answer_in : Told → Answer
 answer_in (told a v p) = a
@@ -165,7 +173,17 @@ reached_one {m} {b} Step w v h r = subst (Reached instruction m b) h.2 (called (
 reached_one (Run count) w v h r = by_run h.0 count h.1 h.3 h.2 r h.4
 reached_one (Play tape) w v h r = by_tape h.0 tape.now h.1 h.3 h.2 r h.4
 
-pub reached_all : {m : Store} {b : Bus} (cs : List Call) (w v : Desk) → PerformsAll cs w v → Reached instruction m b w → Reached instruction m b v
+reached_all : {m : Store} {b : Bus} (cs : List Call) (w v : Desk) → PerformsAll cs w v → Reached instruction m b w → Reached instruction m b v
 unfolding PerformsAll
 reached_all {m} {b} [] w v h r = subst (Reached instruction m b) (sym h) r
 reached_all (c ∷ cs) w v h r = reached_all cs h.0 v h.2 (reached_one c w h.0 h.1 r)
+
+-- ── Two machines ──
+pub compared :
+    {m n : Store} {b d : Bus} {past other : List Call} {asked wanted : List Asking} {ys zs : List StepAnswer} {y z : Bool} →
+    Gone m b past asked ys y → Gone n d other wanted zs z → Compared m n b d past other asked wanted ys zs y z
+compared {m} {n} {b} {d} {past} {other} one two = record {
+  one = one;
+  two = two;
+  isolated = λ alike. isolation instruction m n b d one.start two.start (reached_all past (made m b) one.start one.pasts new) (reached_all other (made n d) two.start two.pasts new) alike one.followed.list two.followed.list;
+}

@@ -96,16 +96,17 @@ pub record Followed (asked : List Asking) (w : Desk) (ys : List StepAnswer) (b :
   pub tells : Tells (course instruction list w) ys b
 
 -- ── Two machines ──
--- Each is made, has its history, and then its list; and the lists are isolated if the two look alike at their start.
-pub record Compared (m n : Store) (b d : Bus) (past other : List Call) (asked wanted : List Asking) (ys zs : List StepAnswer) (y z : Bool) : Type 0 where
+-- A machine is made, has its history, and then its list, which is answered so.
+pub record Gone (m : Store) (b : Bus) (past : List Call) (asked : List Asking) (ys : List StepAnswer) (y : Bool) : Type 0 where
   pub start : Desk
-  pub begin : Desk
   pub pasts : PerformsAll past (made m b) start
-  pub others : PerformsAll other (made n d) begin
   pub finish : Desk
-  pub close : Desk
   pub followed : Followed asked start ys y finish
-  pub follows : Followed wanted begin zs z close
+
+-- Two machines go so; and the lists are isolated if the two look alike at their start.
+pub record Compared (m n : Store) (b d : Bus) (past other : List Call) (asked wanted : List Asking) (ys zs : List StepAnswer) (y z : Bool) : Type 0 where
+  pub one : Gone m b past asked ys y
+  pub two : Gone n d other wanted zs z
   pub isolated :
-      LookAlike start.core begin.core → Allowed instruction start followed.list → Allowed instruction begin follows.list →
-      Isolated instruction start begin followed.list follows.list
+      LookAlike one.start.core two.start.core → Allowed instruction one.start one.followed.list → Allowed instruction two.start two.followed.list →
+      Isolated instruction one.start two.start one.followed.list two.followed.list

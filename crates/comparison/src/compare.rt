@@ -1,61 +1,54 @@
-ghost use Rattle.std.specs.Prelude.{◌≡◌, ℕ, ◌<◌, ◌≤◌, true, length, MatchResult};
+ghost use Rattle.std.specs.Prelude.{IfOk};
 ghost use Rattle.isolation.specs.Isolation.{Isolation};
-ghost use Rattle.comparison.specs.Lists.{Compared};
+ghost use Rattle.comparison.specs.Lists.{Gone, Compared};
 
-use crate::calls::{Call, Continued};
 use crate::follow::follow;
 use crate::history::perform_all;
+use crate::sides::{Answered, Side};
 use bus::meaning::Bus;
 use console::machine::Machine;
-use model::{Record, StepAnswer};
+use model::Record;
 use queue::Queue;
 use std::alloc::{AllocError, Global};
 use store::meaning::Store;
 
-/// What two machines answered: the accepted steps of each list, up to and including its first interrupt, and whether there was one.
+/// What two machines answered, each to its list.
 #[derive(Drop)]
 pub struct Comparison {
-    pub answers: Vec<StepAnswer>,
-    pub others: Vec<StepAnswer>,
-    pub interrupted: bool,
-    pub other_interrupted: bool,
+    pub one: Answered,
+    pub other: Answered,
 }
 
-/// Makes two machines, each over a store and a bus of its own, performs a history on each, and then a list of calls on each.
+/// Makes a machine and performs its history and then its list.
+fn go_through<S: Store + Drop, B: Bus + Drop>(
+    heap: Global,
+    side: Side<'_, S, B>,
+    slots: &mut [Record],
+) -> Result<Answered, AllocError>
+    ensures { IfOk result (λ a. Gone (S.Store.meaning side.entry.store) (B.Bus.devices side.entry.bus) side.entry.past.now side.entry.list.now a.answers.items a.interrupted) }
+{
+    let mut trace = Queue::new(slots);
+    let mut machine = Machine::make(side.store, side.bus);
+    perform_all(&mut machine, side.past, &mut trace);
+    follow(&mut machine, side.list, &mut trace, heap)
+}
+
+/// Makes two machines, each over a store and a bus of its own and a trace of its own slots, performs a history on each, and then
+/// a list of calls on each.
 /// Whatever the stores, buses, histories and lists: if the machines look alike to a protected program where the lists begin, and
 /// the lists are allowed, the lists are isolated.
 pub fn compare<S: Store + Drop, B: Bus + Drop, U: Store + Drop, D: Bus + Drop>(
     heap: Global,
-    store: S,
-    bus: B,
-    past: &[Call<'_>],
-    list: &[Continued],
+    one: Side<'_, S, B>,
     slots: &mut [Record],
-    store2: U,
-    bus2: D,
-    past2: &[Call<'_>],
-    list2: &[Continued],
-    slots2: &mut [Record],
+    other: Side<'_, U, D>,
+    other_slots: &mut [Record],
 ) -> Result<Comparison, AllocError>
     ensures law { Isolation }
-    ensures runs { MatchResult result
-        (λ p. Compared (S.Store.meaning store) (U.Store.meaning store2) (B.Bus.devices bus) (D.Bus.devices bus2) past.now past2.now list.now list2.now p.answers.items p.others.items p.interrupted p.other_interrupted)
-        (λ _. Unit {0}) }
+    ensures runs { IfOk result (λ p. Compared (S.Store.meaning one.entry.store) (U.Store.meaning other.entry.store) (B.Bus.devices one.entry.bus) (D.Bus.devices other.entry.bus) one.entry.past.now other.entry.past.now one.entry.list.now other.entry.list.now p.one.answers.items p.other.answers.items p.one.interrupted p.other.interrupted) }
 {
-    let mut answers = Vec::with_capacity(heap, list.len())?;
-    let mut others = Vec::with_capacity(heap, list2.len())?;
-    let mut trace = Queue::new(slots);
-    let mut trace2 = Queue::new(slots2);
-    let mut one = Machine::make(store, bus);
-    let mut two = Machine::make(store2, bus2);
-    perform_all(&mut one, past, &mut trace);
-    perform_all(&mut two, past2, &mut trace2);
-    let interrupted = follow(&mut one, list, &mut trace, &mut answers);
-    let other_interrupted = follow(&mut two, list2, &mut trace2, &mut others);
     Ok(Comparison {
-        answers,
-        others,
-        interrupted,
-        other_interrupted,
+        one: go_through(heap, one, slots)?,
+        other: go_through(heap, other, other_slots)?,
     })
 }

@@ -1,5 +1,4 @@
-ghost use Rattle.std.specs.Prelude.{◌≡◌};
-ghost use Rattle.queue.specs.Rows.{capacity};
+ghost use Rattle.queue.specs.Rows.{SameSlots};
 ghost use Rattle.console.specs.View.{desk_of};
 ghost use Rattle.comparison.specs.Lists.{Performs, PerformsAll};
 
@@ -17,8 +16,7 @@ fn perform<S: Store, B: Bus>(
     trace: &mut Queue<'_, Record>,
 )
     ensures does { Performs call.entry (desk_of S.Store.meaning B.Bus.devices machine.old) (desk_of S.Store.meaning B.Bus.devices machine.new) }
-    ensures same { trace.new.slots.ghost_name ≡ trace.old.slots.ghost_name }
-    ensures room { capacity trace.new ≡ capacity trace.old }
+    ensures same { SameSlots trace.old trace.new }
 {
     match call {
         Call::TurnKey(position) => {
@@ -58,8 +56,7 @@ pub(crate) fn perform_all<S: Store, B: Bus>(
     trace: &mut Queue<'_, Record>,
 )
     ensures does { PerformsAll calls.now (desk_of S.Store.meaning B.Bus.devices machine.old) (desk_of S.Store.meaning B.Bus.devices machine.new) }
-    ensures same { trace.new.slots.ghost_name ≡ trace.old.slots.ghost_name }
-    ensures room { capacity trace.new ≡ capacity trace.old }
+    ensures same { SameSlots trace.old trace.new }
 {
     for call in calls {
         perform(machine, *call, trace);

@@ -5,3 +5,4 @@ pub mod calls;
 pub mod compare;
 mod follow;
 mod history;
+pub mod sides;

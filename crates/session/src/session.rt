@@ -1,5 +1,6 @@
 ghost use Rattle.std.specs.Prelude.{◌≡◌, length};
 ghost use Rattle.model.specs.Answers.{on};
+ghost use Rattle.console.specs.Keys.{number_of};
 ghost use Rattle.session.specs.Lines.{line_of};
 ghost use Rattle.session.specs.Sessions.{Played};
 
@@ -14,7 +15,7 @@ use store::meaning::Store;
 
 /// The line that shows the PSW of a machine whose key is ON.
 fn line_of<S: Store, B: Bus>(machine: &mut Machine<S, B>) -> [u8; 15]
-    ensures { machine.old.key.position ≡ on → result ≡ line_of machine.old.core.psw.location machine.old.core.psw.status }
+    ensures { number_of machine.old.key.position ≡ on → result ≡ line_of machine.old.core.psw.location machine.old.core.psw.status }
 {
     let location = machine.show(Item::Location).unwrap_or(0);
     let status = machine.show(Item::Status).unwrap_or(0);

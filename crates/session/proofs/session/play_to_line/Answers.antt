@@ -6,6 +6,7 @@ use Rattle.model.specs.Tapes.{Plays}
 use Rattle.store.specs.Boards.{core_boards}
 use Rattle.bus.specs.Devices.{silent}
 use Rattle.instructions.specs.Instructions.{instruction}
+use Rattle.console.specs.Keys.{number_of}
 use Rattle.console.specs.View.{desk_of}
 use Rattle.console.specs.Tape.{played_by}
 use Rattle.session.proofs.session.play_to_line.Goals as goal
@@ -28,5 +29,5 @@ returns c =
           subst (λ (l : List Record). Plays instruction (length c.args.slots.now) tape fresh l a v p) c.new-trace.ensures.empty
           (subst (λ (d : Desk). Plays instruction (length c.args.slots.now) tape d q a v p) new
           (subst (λ (k : ℕ). Plays instruction k tape w q a v p) c.new-trace.ensures.room c.play.ensures.says));
-      shows = c.line_of.ensures (ap (λ k. k.position) c.play.ensures.key ∙ ap (λ (d : Desk). d.key) new);
+      shows = c.line_of.ensures (ap (λ k. number_of k.position) c.play.ensures.key ∙ ap (λ (d : Desk). d.key) new);
     }
