@@ -5,6 +5,7 @@ use bus::silent::SilentBus;
 use buses::teletype::Teletype;
 use comparison::calls::{Call, Continued};
 use comparison::compare::compare;
+use comparison::sides::Side;
 use console::answers::step_number;
 use model::{Cause, Item, Record, StepAnswer};
 use queue::Queue;
@@ -93,32 +94,29 @@ fn main(rt: HostRuntime) -> io::Result<()> {
         Continued::Step,
         Continued::Step,
     ];
-    let store = CoreBoards::new(&mut words);
-    let store2 = ByteImage::new(&mut bytes);
-    let teletype = Teletype::new(Queue::new(&mut keys));
-    let report = compare(
-        heap,
-        store,
-        SilentBus {},
-        &past,
-        &list,
-        &mut slots,
-        store2,
-        teletype,
-        &past2,
-        &list2,
-        &mut slots2,
-    )?;
-    for answer in report.answers.iter() {
+    let one = Side {
+        store: CoreBoards::new(&mut words),
+        bus: SilentBus {},
+        past: &past,
+        list: &list,
+    };
+    let other = Side {
+        store: ByteImage::new(&mut bytes),
+        bus: Teletype::new(Queue::new(&mut keys)),
+        past: &past2,
+        list: &list2,
+    };
+    let report = compare(heap, one, &mut slots, other, &mut slots2)?;
+    for answer in report.one.answers.iter() {
         println!(rt; "core boards: {}", word(*answer))?;
     }
-    for answer in report.others.iter() {
+    for answer in report.other.answers.iter() {
         println!(rt; "byte image: {}", word(*answer))?;
     }
     println!(rt;
         "agreed on {} answers; interrupts {} {}",
-        agreed(&report.answers, &report.others),
-        report.interrupted,
-        report.other_interrupted
+        agreed(&report.one.answers, &report.other.answers),
+        report.one.interrupted,
+        report.other.interrupted
     )
 }
