@@ -2,8 +2,7 @@
 use Rattle.std.proofs.Common.{◌≡◌, ℕ, ◌*◌, ◌/◌, ◌%◌, ◌^◌, ◌<◌, None, arith, rules}
 use Rattle.model.specs.declared.Item.TheVariants.{Location}
 use Rattle.model.specs.Status.{counter, address}
-use Rattle.model.specs.Stores.{Store}
-use Rattle.model.specs.Console.{or_else, strange, place_denial, fixed_denial, value_denial}
+use Rattle.model.specs.Console.{strange, value_denial}
 
 even : (v : ℕ) → v % 2 ≡ 0 → v < 2 ^ 20 → v % 2 ^ 20 % 2 ^ 20 / 2 * 2 ≡ v
 even v e l = omega arith
