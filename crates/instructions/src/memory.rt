@@ -24,6 +24,7 @@ use transfers::updates::{ahm, am, ts};
 use words::sums::extended;
 
 /// Applies a function to a register and a halfword of the store.
+// No one function with the next: what they share is `applied`, and the access and the extension differ.
 fn with_half<S: Store, B: Bus>(
     m: &mut Core<S, B>,
     function: Function,

@@ -37,12 +37,6 @@ pub fn bxh<S: Store, B: Bus>(m: &mut Core<S, B>, o: Addressed)
 pub fn bxle<S: Store, B: Bus>(m: &mut Core<S, B>, o: Addressed)
     ensures { SetsQuietly S.Store.meaning B.Bus.devices (bxle_tree o.r1 o.a.at o.next.at) m.old m.new }
 {
-    bxh(
-        m,
-        Addressed {
-            r1: o.r1,
-            a: o.next,
-            next: o.a,
-        },
-    )
+    let (a, next) = (o.next, o.a);
+    bxh(m, Addressed { a, next, ..o })
 }
