@@ -35,6 +35,7 @@ pub trait Bus {
         requires { (1 ≤ start) × Quiet (devices self.now) start }
         ensures { result ≡ lowest (devices self.now) }
     {
+        // Not `find`: the library has a lemma on what it answers for `a..b`, and none for a range that includes its end.
         for device in start..=255 {
             if self.requests(device) {
                 return Some(device);

@@ -37,8 +37,7 @@ impl<'a> Teletype<'a> {
         ensures waits { queued result ≡ queued self.entry.waiting }
         ensures lent { result.slots.ghost_name ≡ self.entry.waiting.slots.ghost_name }
     {
-        let Teletype { waiting, usage: _ } = self;
-        waiting
+        self.waiting
     }
 
     /// Takes the oldest byte, or gives 0; the read is counted.

@@ -28,8 +28,7 @@ impl<A, B> JoinedBus<A, B> {
         ensures before { result.0 ≡ self.first }
         ensures after { result.1 ≡ self.second }
     {
-        let JoinedBus { first, second } = self;
-        (first, second)
+        (self.first, self.second)
     }
 }
 
