@@ -1,8 +1,7 @@
-use crate::parts::{UNUSED, denied, played};
+use crate::parts::{denied, played};
 use bus::silent::SilentBus;
-use console::answers::cause_number;
 use console::machine::Machine;
-use model::Item;
+use model::{BLANK, Item};
 use queue::Queue;
 use std::test::Fail;
 use store::boards::CoreBoards;
@@ -89,7 +88,7 @@ fn ends(rt: HostRuntime) {
         },
     ];
     let mut words = [0; 2048];
-    let mut slots = [UNUSED; 1];
+    let mut slots = [BLANK; 1];
     let mut trace = Queue::new(&mut slots);
     let mut m = Machine::make(
         LoaderStrip::new(CoreBoards::new(&mut words), [9; 24]),
@@ -116,7 +115,7 @@ fn cut_short(rt: HostRuntime) {
         b"G",
     ];
     let mut words = [0; 8];
-    let mut slots = [UNUSED; 0];
+    let mut slots = [BLANK; 0];
     let mut trace = Queue::new(&mut slots);
     let mut m = Machine::make(CoreBoards::new(&mut words), SilentBus {});
     for tape in cases {
@@ -130,7 +129,7 @@ fn cut_short(rt: HostRuntime) {
 #[test]
 fn what_stands_after(rt: HostRuntime) {
     let mut words = [0; 2048];
-    let mut slots = [UNUSED; 1];
+    let mut slots = [BLANK; 1];
     let mut trace = Queue::new(&mut slots);
     let mut m = Machine::make(CoreBoards::new(&mut words), SilentBus {});
     assert_eq!(rt; denied(m.turn_key(2)), 0);
@@ -160,7 +159,7 @@ fn what_stands_after(rt: HostRuntime) {
 #[test]
 fn full_trace(rt: HostRuntime) -> Result<(), Fail> {
     let mut words = [0; 64];
-    let mut slots = [UNUSED; 1];
+    let mut slots = [BLANK; 1];
     let mut trace = Queue::new(&mut slots);
     let mut m = Machine::make(CoreBoards::new(&mut words), SilentBus {});
     assert_eq!(rt;
@@ -173,7 +172,7 @@ fn full_trace(rt: HostRuntime) -> Result<(), Fail> {
     assert_eq!(rt; played(m.play(b"G\x00\x00\x00", &mut trace)), [4, 0, 0x47]);
     assert_eq!(rt; trace.len(), 1);
     let record = trace.get(0).ok_or("no record")?;
-    assert_eq!(rt; cause_number(record.cause), 2);
+    assert_eq!(rt; u8::from(record.cause), 2);
     assert_eq!(rt; [record.status, record.location, record.faults], [5, 4, 0]);
     assert_eq!(rt; m.show(Item::Location).unwrap_or(0), 6);
     Ok(())

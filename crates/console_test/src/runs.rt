@@ -1,9 +1,8 @@
-use crate::parts::{UNUSED, denied, played, ran, stepped};
+use crate::parts::{denied, played, ran, stepped};
 use bus::silent::SilentBus;
 use buses::teletype::Teletype;
-use console::answers::cause_number;
 use console::machine::Machine;
-use model::Item;
+use model::{BLANK, Item};
 use queue::Queue;
 use std::test::Fail;
 use store::boards::CoreBoards;
@@ -12,7 +11,7 @@ use store::boards::CoreBoards;
 #[test]
 fn reasons(rt: HostRuntime) {
     let mut words = [0; 8];
-    let mut slots = [UNUSED; 2];
+    let mut slots = [BLANK; 2];
     let mut trace = Queue::new(&mut slots);
     let mut m = Machine::make(CoreBoards::new(&mut words), SilentBus {});
     assert_eq!(rt; ran(m.run(9, &mut trace)), [1, 0]);
@@ -32,7 +31,7 @@ fn reasons(rt: HostRuntime) {
 #[test]
 fn sample(rt: HostRuntime) {
     let mut words = [0; 2048];
-    let mut slots = [UNUSED; 1];
+    let mut slots = [BLANK; 1];
     let mut trace = Queue::new(&mut slots);
     let mut m = Machine::make(CoreBoards::new(&mut words), SilentBus {});
     assert_eq!(rt;
@@ -112,7 +111,7 @@ fn answers(rt: HostRuntime) {
     ];
     for case in cases {
         let mut words = [0; 2048];
-        let mut slots = [UNUSED; 1];
+        let mut slots = [BLANK; 1];
         let mut trace = Queue::new(&mut slots);
         let mut m = Machine::make(CoreBoards::new(&mut words), SilentBus {});
         assert_eq!(rt; denied(m.deposit(0xa00, case.word)), 0);
@@ -120,7 +119,7 @@ fn answers(rt: HostRuntime) {
         assert_eq!(rt; denied(m.set(Item::Status, case.status)), 0);
         assert_eq!(rt; stepped(m.step(&mut trace)), case.answer);
         if let Some(record) = trace.get(0) {
-            assert_eq!(rt; cause_number(record.cause), case.answer);
+            assert_eq!(rt; u8::from(record.cause), case.answer);
             assert_eq!(rt; [record.status, record.faults], [case.status, case.faults]);
             assert_eq!(rt; m.interrupt_status(), case.faults);
             assert_eq!(rt; m.show(Item::General(0, 14)).unwrap_or(1), case.status);
@@ -137,8 +136,8 @@ fn device(rt: HostRuntime) -> Result<(), Fail> {
     let mut words = [0; 2048];
     let mut bytes = [0; 1];
     let mut keyed = Queue::new(&mut bytes);
-    assert!(rt; keyed.push(65));
-    let mut slots = [UNUSED; 1];
+    assert!(rt; keyed.push(65).is_ok());
+    let mut slots = [BLANK; 1];
     let mut trace = Queue::new(&mut slots);
     let mut m = Machine::make(CoreBoards::new(&mut words), Teletype::new(keyed));
     assert_eq!(rt;
@@ -149,7 +148,7 @@ fn device(rt: HostRuntime) -> Result<(), Fail> {
         [0, 10, 0]
     );
     let record = trace.get(0).ok_or("no record")?;
-    assert_eq!(rt; cause_number(record.cause), 6);
+    assert_eq!(rt; u8::from(record.cause), 6);
     assert_eq!(rt; [record.status, record.location], [0x40f0, 0xa08]);
     for (number, value) in [(0, 0x40f0), (1, 0xa08), (2, 2), (3, 0), (4, 0xb01)] {
         assert_eq!(rt; m.show(Item::General(0, number)).unwrap_or(1), value);

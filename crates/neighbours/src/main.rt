@@ -6,14 +6,15 @@ use buses::teletype::Teletype;
 use comparison::calls::{Call, Continued};
 use comparison::compare::compare;
 use comparison::sides::Side;
-use console::answers::step_number;
-use model::{Cause, Item, Record, StepAnswer};
+use model::{BLANK, Cause, Item, StepAnswer};
 use queue::Queue;
+use std::alloc::{AllocError, Global};
 use std::io;
 use store::boards::CoreBoards;
 use stores::image::ByteImage;
 
 /// An answer in words.
+// Not by Display: the words that a cause prints are longer than those of this program.
 fn word(answer: StepAnswer) -> &'static str {
     match answer {
         StepAnswer::Done => "done",
@@ -28,14 +29,10 @@ fn word(answer: StepAnswer) -> &'static str {
 
 /// How many answers the two have in common from their beginning.
 fn agreed(one: &[StepAnswer], other: &[StepAnswer]) -> usize {
-    let mut same = 0usize;
-    for (x, y) in one.iter().zip(other.iter()) {
-        if step_number(*x) != step_number(*y) {
-            break;
-        }
-        same = same.saturating_add(1);
-    }
-    same
+    one.iter()
+        .zip(other.iter())
+        .take_while(|(x, y)| **x == **y)
+        .count()
 }
 
 // The program, at real X'1000', where relocation brings its address 0: a position is raised by a speed, as in a table of orbits,
@@ -44,40 +41,43 @@ const PROGRAM: [u16; 12] = [
     0x2413, 0x4820, 0x0040, 0x0a21, 0x4020, 0x0040, 0x2432, 0x1c22, 0x1d23, 0x5030, 0x0044, 0xe100,
 ];
 
+// The window and the PSW with which the program begins, protected.
+const BEGINNING: [Call<'static>; 3] = [
+    Call::Set(Item::Segment(0), 0x0000_1010),
+    Call::Set(Item::Status, 0x0000_05f0),
+    Call::Set(Item::Location, 0),
+];
+
+/// A history: the program deposited, then the calls for its neighbours, then its beginning.
+fn history(heap: Global, neighbours: &[Call<'static>]) -> Result<Vec<Call<'static>>, AllocError> {
+    let mut past = Vec::new(heap);
+    for (address, word) in (0x1000u32..).step_by(2).zip(PROGRAM.iter()) {
+        past.push(Call::Deposit(address, *word))?;
+    }
+    past.extend_from_slice(neighbours)?;
+    past.extend_from_slice(&BEGINNING)?;
+    Ok(past)
+}
+
 fn main(rt: HostRuntime) -> io::Result<()> {
     let heap = rt.alloc();
-    let blank = Record {
-        cause: Cause::IllegalInstruction,
-        status: 0,
-        location: 0,
-        faults: 0,
-    };
     let mut words = vec![in heap; 0u16; 8_192]?;
     let mut bytes = vec![in heap; 0u8; 16_384]?;
-    let mut slots = [blank; 4];
-    let mut slots2 = [blank; 9];
+    let mut slots = [BLANK; 4];
+    let mut slots2 = [BLANK; 9];
     let mut keys = [0u8; 4];
 
-    let mut past = Vec::new(heap);
-    let mut past2 = Vec::new(heap);
-    let mut at = 0x1000u32;
-    for word in PROGRAM.iter() {
-        past.push(Call::Deposit(at, *word))?;
-        past2.push(Call::Deposit(at, *word))?;
-        at = at.saturating_add(2);
-    }
     // The neighbours: other words beside the program, other registers of set 0, another interrupt.
-    past.push(Call::Deposit(0x2000, 0x1111))?;
-    past2.push(Call::Deposit(0x2000, 0x9999))?;
-    past2.push(Call::Set(Item::General(0, 3), 7))?;
-    past2.push(Call::Deposit(0x98, 0x0000))?;
-    past2.push(Call::Step)?;
-    past.push(Call::Set(Item::Segment(0), 0x0000_1010))?;
-    past.push(Call::Set(Item::Status, 0x0000_05f0))?;
-    past.push(Call::Set(Item::Location, 0))?;
-    past2.push(Call::Set(Item::Segment(0), 0x0000_1010))?;
-    past2.push(Call::Set(Item::Status, 0x0000_05f0))?;
-    past2.push(Call::Set(Item::Location, 0))?;
+    let past = history(heap, &[Call::Deposit(0x2000, 0x1111)])?;
+    let past2 = history(
+        heap,
+        &[
+            Call::Deposit(0x2000, 0x9999),
+            Call::Set(Item::General(0, 3), 7),
+            Call::Deposit(0x98, 0x0000),
+            Call::Step,
+        ],
+    )?;
     let list = [Continued::Step; 9];
     let list2 = [
         Continued::Step,
@@ -107,10 +107,10 @@ fn main(rt: HostRuntime) -> io::Result<()> {
         list: &list2,
     };
     let report = compare(heap, one, &mut slots, other, &mut slots2)?;
-    for answer in report.one.answers.iter() {
+    for answer in &report.one.answers {
         println!(rt; "core boards: {}", word(*answer))?;
     }
-    for answer in report.other.answers.iter() {
+    for answer in &report.other.answers {
         println!(rt; "byte image: {}", word(*answer))?;
     }
     println!(rt;

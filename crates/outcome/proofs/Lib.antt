@@ -1,2 +1,2 @@
-mod Lists
+mod Digits
 mod Sixteen

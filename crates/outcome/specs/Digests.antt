@@ -1,5 +1,6 @@
 -- The 64-bit FNV-1a digest of the bytes of halfwords, the high byte of each first.
-use Rattle.std.specs.Prelude.{ℕ, ◌*◌, ◌/◌, ◌%◌, ◌^◌, List, [], ◌∷◌, bit_xor}
+use Rattle.std.specs.Prelude.{ℕ, ◌*◌, ◌/◌, ◌%◌, ◌^◌, List, bit_xor}
+use Rattle.std.specs.List.{fold}
 
 -- The digest of nothing.
 abbrev pub start : ℕ
@@ -13,6 +14,6 @@ taken digest byte = bit_xor digest byte * 1099511628211 % 2 ^ 64
 abbrev pub taken_word : ℕ → ℕ → ℕ
 taken_word digest word = taken (taken digest (word / 256)) (word % 256)
 
-unfoldable pub digest_from : ℕ → List ℕ → ℕ
-digest_from digest [] = digest
-digest_from digest (word ∷ words) = digest_from (taken_word digest word) words
+-- A digest with halfwords taken in, the first of them first.
+abbrev pub digest_from : ℕ → List ℕ → ℕ
+digest_from = fold taken_word

@@ -1,31 +1,30 @@
-ghost use Rattle.std.specs.Prelude.{◌≡◌, ◌/◌, ◌%◌, ◌^◌, ◌<◌, ◌≤◌};
-ghost use Rattle.session.specs.Lines.{hex_digit, digits};
-ghost use Rattle.outcome.specs.Texts.{Adds};
+ghost use Rattle.std.specs.Prelude.{◌≡◌, ◌/◌, ◌%◌, ◌^◌};
+ghost use Rattle.outcome.specs.Texts.{Adds, hex};
 
+use session::line::hex_digit;
 use std::alloc::AllocError;
 
-/// The character of the hexadecimal digit at a place of a number, counted from its last.
-fn digit_at(value: u64, place: u32) -> u8
-    requires { place < 16 }
-    ensures { result ≡ hex_digit (value / 16 ^ place % 16) }
+/// A number without its last hexadecimal digits, so many of them.
+#[tactic(auto, using(crate::proofs::Sixteen::two_sixteen, crate::proofs::Sixteen::none_left))]
+fn without_last(value: u64, places: u32) -> u64
+    ensures { result ≡ value / 16 ^ places }
 {
-    let digit = ((value >> (4 * place)) % 16) as u8;
-    if digit < 10 {
-        b'0' + digit
+    if places < 16 {
+        value >> (4 * places)
     } else {
-        b'A' - 10 + digit
+        0
     }
 }
 
 /// Adds the last digits of a number, so many of them, in hexadecimal.
+// Not by `{:0places$X}`, which writes all digits of a longer number.
+#[tactic(auto, unfolding(crate::specs::Texts::hex))]
 pub fn add_hex(text: &mut Vec<u8>, places: u32, value: u64) -> Result<(), AllocError>
-    requires { places ≤ 16 }
-    ensures { Adds result text.old.items text.new.items (digits places value) }
+    ensures { Adds result text.old.items text.new.items (hex places value) }
 {
-    let mut left = places;
-    while left > 0 {
-        left -= 1;
-        text.push(digit_at(value, left))?;
+    for place in (0..places).rev() {
+        let digit = without_last(value, place) % 16;
+        text.push(hex_digit(digit as u8))?;
     }
     Ok(())
 }

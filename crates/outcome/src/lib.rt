@@ -1,4 +1,4 @@
-//! What a tape leaves, as text: numbers in hexadecimal, denials and causes in words, and the line of an outcome.
+//! What a tape leaves, as text: numbers in hexadecimal, and the line of an outcome.
 #![tactic(auto)]
 
 pub mod digest;
@@ -6,4 +6,3 @@ pub mod hex;
 pub mod line;
 pub mod played;
 pub mod shown;
-pub mod wording;

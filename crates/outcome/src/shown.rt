@@ -1,3 +1,5 @@
+ghost use Rattle.std.specs.Prelude.{◌≡◌};
+
 use bus::meaning::Bus;
 use console::machine::Machine;
 use model::Item;
@@ -16,32 +18,29 @@ pub struct Shown {
     pub interrupt_status: u32,
 }
 
-/// The registers of a set, of a machine whose key is ON.
-fn registers_of<S: Store, B: Bus>(machine: &mut Machine<S, B>, set: u8) -> [u32; 16] {
-    let mut registers = [0; 16];
-    for number in 0u8..16 {
-        registers[usize::from(number)] = machine.show(Item::General(set, number)).unwrap_or(0);
+/// The numbers in sixteen registers of a machine whose key is ON: `item` says which register has a number.
+fn sixteen<S: Store, B: Bus, F: Fn(u8) -> Item>(machine: &mut Machine<S, B>, item: F) -> [u32; 16]
+    requires { F.IsAlwaysCallable item }
+    ensures { machine.new ≡ machine.old }
+{
+    let mut values = [0; 16];
+    for (value, number) in values.iter_mut().zip(0..) {
+        *value = machine.show(item(number)).unwrap_or(0);
     }
-    registers
-}
-
-/// The segmentation registers of a machine whose key is ON.
-fn segments_of<S: Store, B: Bus>(machine: &mut Machine<S, B>) -> [u32; 16] {
-    let mut segments = [0; 16];
-    for number in 0u8..16 {
-        segments[usize::from(number)] = machine.show(Item::Segment(number)).unwrap_or(0);
-    }
-    segments
+    values
 }
 
 /// All that the console shows of the processor of a machine whose key is ON. The machine stays as it is.
-pub fn shown_by<S: Store, B: Bus>(machine: &mut Machine<S, B>) -> Shown {
+pub fn shown_by<S: Store, B: Bus>(machine: &mut Machine<S, B>) -> Shown
+    ensures interrupt_status { result.interrupt_status ≡ machine.old.core.controller.faults }
+    ensures same { machine.new ≡ machine.old }
+{
     Shown {
         location: machine.show(Item::Location).unwrap_or(0),
         status: machine.show(Item::Status).unwrap_or(0),
-        lower: registers_of(machine, 0),
-        upper: registers_of(machine, 15),
-        segments: segments_of(machine),
+        lower: sixteen(machine, |number| Item::General(0, number)),
+        upper: sixteen(machine, |number| Item::General(15, number)),
+        segments: sixteen(machine, Item::Segment),
         interrupt_status: machine.interrupt_status(),
     }
 }

@@ -2,7 +2,9 @@
 //! stands behind its length, 4 bytes, the more significant first.
 #![tactic(auto)]
 
-use model::{Cause, Record};
+ghost use Rattle.std.specs.Prelude.{◌<◌, IfSome, length};
+
+use model::BLANK;
 use outcome::digest::store_digest;
 use outcome::line::add_line;
 use outcome::played::play_new;
@@ -12,25 +14,16 @@ use std::io;
 use std::io::{Read, Write};
 
 /// The tape at the front of the input, and what comes after it; none if the input is at its end, or cut short.
-fn next_tape(input: &[u8]) -> Option<(&[u8], &[u8])> {
-    let [a, b, c, d, rest @ ..] = input else {
-        return None;
-    };
-    let length = u32::from_be_bytes([*a, *b, *c, *d]) as usize;
-    if length > rest.len() {
-        return None;
-    }
-    Some(rest.split_at(length))
+fn next_tape(input: &[u8]) -> Option<(&[u8], &[u8])>
+    ensures { IfSome result (λ p. length p.1.now < length input.now) }
+{
+    let (length, rest) = input.split_first_chunk::<4>()?;
+    rest.split_at_checked(u32::from_be_bytes(*length) as usize)
 }
 
 /// Adds the line that a tape leaves, over a store of the words, which are zero.
 fn add_outcome(text: &mut Vec<u8>, tape: &[u8], words: &mut [u16]) -> Result<(), AllocError> {
-    let mut slots = [Record {
-        cause: Cause::IllegalInstruction,
-        status: 0,
-        location: 0,
-        faults: 0,
-    }; 64];
+    let mut slots = [BLANK; 64];
     let mut trace = Queue::new(&mut slots);
     let outcome = play_new(tape, words, &mut trace);
     add_line(
@@ -49,11 +42,7 @@ fn main(rt: HostRuntime) -> io::Result<()> {
     let mut input = Vec::new(heap);
     rt.stdin().read_to_end(&mut input)?;
     let mut rest = input.as_slice();
-    // Each tape takes 4 bytes or more, so there are no more tapes than bytes.
-    for _ in 0..input.len() {
-        let Some((tape, after)) = next_tape(rest) else {
-            break;
-        };
+    while let Some((tape, after)) = next_tape(rest) {
         rest = after;
         words.fill(0);
         text.clear();

@@ -2,11 +2,9 @@
 //! store.
 #![tactic(auto)]
 
-use console::answers::denial_number;
-use model::{Cause, Record};
+use model::{BLANK, Record};
 use outcome::played::play_new;
 use outcome::shown::Shown;
-use outcome::wording::{cause_words, denial_words};
 use queue::Queue;
 use std::io;
 use std::io::Read;
@@ -23,11 +21,7 @@ fn print_fault(rt: &HostRuntime, fault: TapeFault) -> io::Result<()> {
         Some(letter) => println!(rt; "Fault at byte {place}, letter X'{letter:02X}'")?,
         None => println!(rt; "Fault at byte {place}, no letter")?,
     }
-    println!(rt;
-        "Denial {}: {}",
-        denial_number(fault.denial),
-        denial_words(fault.denial)
-    )
+    println!(rt; "Denial {}: {}", u8::from(fault.denial), fault.denial)
 }
 
 /// Prints how the tape ended.
@@ -75,14 +69,11 @@ fn print_shown(rt: &HostRuntime, shown: &Shown) -> io::Result<()> {
 /// Prints the records of the trace, the oldest first.
 fn print_trace(rt: &HostRuntime, trace: &Queue<'_, Record>) -> io::Result<()> {
     println!(rt; "Interrupts: {}", trace.len())?;
-    for index in 0..trace.len() {
-        if let Some(record) = trace.get(index) {
-            let cause = cause_words(record.cause);
-            println!(rt;
-                "{index:5}: status {:08X}, location {:05X}, interrupt status {:02X}, {cause}",
-                record.status, record.location, record.faults
-            )?;
-        }
+    for (index, record) in trace.iter().enumerate() {
+        println!(rt;
+            "{index:5}: status {:08X}, location {:05X}, interrupt status {:02X}, {}",
+            record.status, record.location, record.faults, record.cause
+        )?;
     }
     Ok(())
 }
@@ -118,12 +109,7 @@ fn main(rt: HostRuntime) -> io::Result<()> {
     let heap = rt.alloc();
     let mut tape = Vec::new(heap);
     let mut words = vec![in heap; 0u16; 32_768]?;
-    let mut slots = [Record {
-        cause: Cause::IllegalInstruction,
-        status: 0,
-        location: 0,
-        faults: 0,
-    }; 64];
+    let mut slots = [BLANK; 64];
     rt.stdin().take(65_536).read_to_end(&mut tape)?;
     print_played(&rt, &tape, &mut words, &mut slots)
 }

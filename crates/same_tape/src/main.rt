@@ -3,9 +3,8 @@
 
 use bus::meaning::Bus;
 use bus::silent::SilentBus;
-use console::answers::{cause_number, denial_number};
 use console::machine::Machine;
-use model::{Cause, Item, Record};
+use model::{BLANK, Item};
 use queue::Queue;
 use std::io;
 use std::io::Read;
@@ -20,26 +19,21 @@ fn digest<S: Store, B: Bus>(machine: &mut Machine<S, B>) -> u32 {
     let mut sum = 0u32;
     for place in 0..8_192u32 {
         let word = machine.examine(2 * place).unwrap_or(0xffff);
-        sum = sum.wrapping_mul(31).wrapping_add(word as u32);
+        sum = sum.wrapping_mul(31).wrapping_add(u32::from(word));
     }
     sum
 }
 
 /// Plays a tape over a store, and prints what came of it.
 fn played<S: Store + Drop>(rt: &HostRuntime, name: &str, store: S, tape: &[u8]) -> io::Result<()> {
-    let mut slots = [Record {
-        cause: Cause::IllegalInstruction,
-        status: 0,
-        location: 0,
-        faults: 0,
-    }; 8];
+    let mut slots = [BLANK; 8];
     let mut trace = Queue::new(&mut slots);
     let mut machine = Machine::make(store, SilentBus {});
     match machine.play(tape, &mut trace) {
         Ok(commands) => println!(rt; "{name}: {commands} commands")?,
         Err(fault) => println!(rt;
             "{name}: denial {} at {}",
-            denial_number(fault.denial),
+            u8::from(fault.denial),
             fault.place
         )?,
     }
@@ -50,16 +44,13 @@ fn played<S: Store + Drop>(rt: &HostRuntime, name: &str, store: S, tape: &[u8]) 
         "  {location:05X} {status:08X} register 3 {three:08X} words {:08X}",
         digest(&mut machine)
     )?;
-    for index in 0..8 {
-        let Some(entry) = trace.get(index) else {
-            break;
-        };
-        let status = entry.status;
-        let location = entry.location;
-        let faults = entry.faults;
+    for entry in &trace {
         println!(rt;
-            "  interrupt {} {status:08X} {location:05X} {faults:02X}",
-            cause_number(entry.cause)
+            "  interrupt {} {:08X} {:05X} {:02X}",
+            u8::from(entry.cause),
+            entry.status,
+            entry.location,
+            entry.faults
         )?;
     }
     Ok(())
@@ -67,35 +58,32 @@ fn played<S: Store + Drop>(rt: &HostRuntime, name: &str, store: S, tape: &[u8]) 
 
 fn main(rt: HostRuntime) -> io::Result<()> {
     let heap = rt.alloc();
-    let mut buffer = vec![in heap; 0u8; 4_096]?;
-    let length = rt.stdin().read(&mut buffer)?;
-    let Some(tape) = buffer.get(0..length) else {
-        return Ok(());
-    };
+    let mut tape = Vec::new(heap);
+    rt.stdin().take(4_096).read_to_end(&mut tape)?;
     let mut words = vec![in heap; 0u16; 8_192]?;
-    played(&rt, "core boards", CoreBoards::new(&mut words), tape)?;
+    played(&rt, "core boards", CoreBoards::new(&mut words), &tape)?;
     let mut bytes = vec![in heap; 0u8; 16_385]?;
-    played(&rt, "byte image", ByteImage::new(&mut bytes), tape)?;
+    played(&rt, "byte image", ByteImage::new(&mut bytes), &tape)?;
     let mut half = vec![in heap; 0u16; 3_000]?;
     let mut rest = vec![in heap; 0u8; 10_384]?;
     played(
         &rt,
         "bank pair",
         BankPair::new(CoreBoards::new(&mut half), ByteImage::new(&mut rest)),
-        tape,
+        &tape,
     )?;
     let mut under = vec![in heap; 0u16; 8_192]?;
     played(
         &rt,
         "strip over core boards",
         LoaderStrip::new(CoreBoards::new(&mut under), [0u16; 24]),
-        tape,
+        &tape,
     )?;
     let mut image = vec![in heap; 0u8; 16_384]?;
     played(
         &rt,
         "strip over a byte image",
         LoaderStrip::new(ByteImage::new(&mut image), [0u16; 24]),
-        tape,
+        &tape,
     )
 }
