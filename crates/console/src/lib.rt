@@ -1,7 +1,6 @@
 //! The console: every call on a machine, and the tape.
 #![tactic(auto)]
 
-pub mod answers;
 pub mod key;
 pub mod machine;
 mod registers_at;

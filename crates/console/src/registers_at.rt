@@ -52,7 +52,7 @@ pub(crate) fn item_in<S: Store, B: Bus>(core: &Core<S, B>, item: Item) -> Result
         Item::General(set, number) => core.general(set, number),
         Item::Segment(number) => core.segment(number),
         Item::Status => core.psw().status(),
-        Item::Location => core.psw().location().number(),
+        Item::Location => u32::from(core.psw().location()),
     })
 }
 

@@ -131,14 +131,6 @@ impl ProgramAddress {
         ProgramAddress { at: n % 0x10_0000 }
     }
 
-    /// The address as a number.
-    pub fn number(self) -> u32
-        ensures value { result ≡ self.at }
-        ensures small { result < 2 ^ 20 }
-    {
-        self.at
-    }
-
     /// The address a few bytes on, in 20 bits.
     pub fn plus(self, bytes: u16) -> ProgramAddress
         ensures { result.at ≡ address (self.at + bytes) }
