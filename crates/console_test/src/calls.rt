@@ -1,7 +1,7 @@
-use crate::parts::{denied, played, ran, stepped};
+use crate::parts::{UNUSED, denied, played, ran, stepped};
 use bus::silent::SilentBus;
 use console::machine::Machine;
-use model::{BLANK, Item};
+use model::Item;
 use queue::Queue;
 use store::boards::CoreBoards;
 use stores::strip::LoaderStrip;
@@ -61,7 +61,7 @@ fn registers_that_are_not_there(rt: HostRuntime) {
 #[test]
 fn numbers_out_of_range(rt: HostRuntime) {
     let mut words = [0; 8];
-    let mut slots = [BLANK; 2];
+    let mut slots = [UNUSED; 2];
     let mut trace = Queue::new(&mut slots);
     let mut m = Machine::make(CoreBoards::new(&mut words), SilentBus {});
     assert_eq!(rt; denied(m.turn_key(3)), 4);
@@ -84,7 +84,7 @@ fn numbers_out_of_range(rt: HostRuntime) {
 #[test]
 fn key_off(rt: HostRuntime) {
     let mut words = [0; 8];
-    let mut slots = [BLANK; 0];
+    let mut slots = [UNUSED; 0];
     let mut trace = Queue::new(&mut slots);
     let mut m = Machine::make(CoreBoards::new(&mut words), SilentBus {});
     assert_eq!(rt; denied(m.set(Item::General(15, 3), 0x0102_0304)), 0);
@@ -117,7 +117,7 @@ fn key_off(rt: HostRuntime) {
 #[test]
 fn key_at_lock(rt: HostRuntime) {
     let mut words = [0; 8];
-    let mut slots = [BLANK; 1];
+    let mut slots = [UNUSED; 1];
     let mut trace = Queue::new(&mut slots);
     let mut m = Machine::make(CoreBoards::new(&mut words), SilentBus {});
     assert_eq!(rt; denied(m.turn_key(2)), 0);
@@ -153,7 +153,7 @@ fn key_at_lock(rt: HostRuntime) {
 #[test]
 fn trace_without_room(rt: HostRuntime) {
     let mut words = [0; 8];
-    let mut slots = [BLANK; 0];
+    let mut slots = [UNUSED; 0];
     let mut trace = Queue::new(&mut slots);
     let mut m = Machine::make(CoreBoards::new(&mut words), SilentBus {});
     assert_eq!(rt; denied(m.step(&mut trace)), 9);

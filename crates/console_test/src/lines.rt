@@ -1,4 +1,4 @@
-use model::BLANK;
+use crate::parts::UNUSED;
 use session::session::play_to_line;
 use std::process::Abort;
 
@@ -13,7 +13,7 @@ struct Case<'a> {
 fn all_leave(rt: &impl Abort, cases: &[Case<'_>]) {
     for case in cases {
         let mut words = [0; 2048];
-        let mut slots = [BLANK; 4];
+        let mut slots = [UNUSED; 4];
         assert_eq!(rt; play_to_line(case.tape, &mut words, &mut slots), case.line);
     }
 }

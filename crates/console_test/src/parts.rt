@@ -2,9 +2,17 @@ ghost use Rattle.std.specs.Prelude.{◌≡◌, ℕ, [], ◌∷◌, MatchResult};
 ghost use Rattle.model.specs.Answers.{number, step_number, reason_number};
 ghost use Rattle.console_test.specs.Numbers.{letter_number};
 
-use model::{Denial, StepAnswer};
+use model::{Cause, Denial, Record, StepAnswer};
 use steps::run::RunAnswer;
 use tape::orders::TapeFault;
+
+/// What a slot of a trace holds before any record: not what `BLANK` has, so that a test would show a slot that is read unwritten.
+pub(crate) const UNUSED: Record = Record {
+    cause: Cause::DeviceRequest,
+    status: 0,
+    location: 0,
+    faults: 0,
+};
 
 /// The number of a denial, and 0 for an answer.
 pub(crate) fn denied<T: Drop>(answer: Result<T, Denial>) -> u8

@@ -1,7 +1,7 @@
-use crate::parts::{denied, played};
+use crate::parts::{UNUSED, denied, played};
 use bus::silent::SilentBus;
 use console::machine::Machine;
-use model::{BLANK, Item};
+use model::Item;
 use queue::Queue;
 use std::test::Fail;
 use store::boards::CoreBoards;
@@ -88,7 +88,7 @@ fn ends(rt: HostRuntime) {
         },
     ];
     let mut words = [0; 2048];
-    let mut slots = [BLANK; 1];
+    let mut slots = [UNUSED; 1];
     let mut trace = Queue::new(&mut slots);
     let mut m = Machine::make(
         LoaderStrip::new(CoreBoards::new(&mut words), [9; 24]),
@@ -115,7 +115,7 @@ fn cut_short(rt: HostRuntime) {
         b"G",
     ];
     let mut words = [0; 8];
-    let mut slots = [BLANK; 0];
+    let mut slots = [UNUSED; 0];
     let mut trace = Queue::new(&mut slots);
     let mut m = Machine::make(CoreBoards::new(&mut words), SilentBus {});
     for tape in cases {
@@ -129,7 +129,7 @@ fn cut_short(rt: HostRuntime) {
 #[test]
 fn what_stands_after(rt: HostRuntime) {
     let mut words = [0; 2048];
-    let mut slots = [BLANK; 1];
+    let mut slots = [UNUSED; 1];
     let mut trace = Queue::new(&mut slots);
     let mut m = Machine::make(CoreBoards::new(&mut words), SilentBus {});
     assert_eq!(rt; denied(m.turn_key(2)), 0);
@@ -159,7 +159,7 @@ fn what_stands_after(rt: HostRuntime) {
 #[test]
 fn full_trace(rt: HostRuntime) -> Result<(), Fail> {
     let mut words = [0; 64];
-    let mut slots = [BLANK; 1];
+    let mut slots = [UNUSED; 1];
     let mut trace = Queue::new(&mut slots);
     let mut m = Machine::make(CoreBoards::new(&mut words), SilentBus {});
     assert_eq!(rt;

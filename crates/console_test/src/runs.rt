@@ -1,8 +1,8 @@
-use crate::parts::{denied, played, ran, stepped};
+use crate::parts::{UNUSED, denied, played, ran, stepped};
 use bus::silent::SilentBus;
 use buses::teletype::Teletype;
 use console::machine::Machine;
-use model::{BLANK, Item};
+use model::Item;
 use queue::Queue;
 use std::test::Fail;
 use store::boards::CoreBoards;
@@ -11,7 +11,7 @@ use store::boards::CoreBoards;
 #[test]
 fn reasons(rt: HostRuntime) {
     let mut words = [0; 8];
-    let mut slots = [BLANK; 2];
+    let mut slots = [UNUSED; 2];
     let mut trace = Queue::new(&mut slots);
     let mut m = Machine::make(CoreBoards::new(&mut words), SilentBus {});
     assert_eq!(rt; ran(m.run(9, &mut trace)), [1, 0]);
@@ -31,7 +31,7 @@ fn reasons(rt: HostRuntime) {
 #[test]
 fn sample(rt: HostRuntime) {
     let mut words = [0; 2048];
-    let mut slots = [BLANK; 1];
+    let mut slots = [UNUSED; 1];
     let mut trace = Queue::new(&mut slots);
     let mut m = Machine::make(CoreBoards::new(&mut words), SilentBus {});
     assert_eq!(rt;
@@ -111,7 +111,7 @@ fn answers(rt: HostRuntime) {
     ];
     for case in cases {
         let mut words = [0; 2048];
-        let mut slots = [BLANK; 1];
+        let mut slots = [UNUSED; 1];
         let mut trace = Queue::new(&mut slots);
         let mut m = Machine::make(CoreBoards::new(&mut words), SilentBus {});
         assert_eq!(rt; denied(m.deposit(0xa00, case.word)), 0);
@@ -137,7 +137,7 @@ fn device(rt: HostRuntime) -> Result<(), Fail> {
     let mut bytes = [0; 1];
     let mut keyed = Queue::new(&mut bytes);
     assert!(rt; keyed.push(65).is_ok());
-    let mut slots = [BLANK; 1];
+    let mut slots = [UNUSED; 1];
     let mut trace = Queue::new(&mut slots);
     let mut m = Machine::make(CoreBoards::new(&mut words), Teletype::new(keyed));
     assert_eq!(rt;
