@@ -1,4 +1,4 @@
-ghost use Rattle.std.specs.Prelude.{◌≡◌, ◌<◌, ◌≤◌, false, IfSome, IfOk};
+ghost use Rattle.std.specs.Prelude.{◌≡◌, ◌≤◌, true, false, MatchOption, IfSome, IfOk};
 ghost use Rattle.processor.specs.View.{SetsQuietly};
 ghost use Rattle.devices.specs.Devices.{no_device, Names, end_tree};
 
@@ -9,14 +9,12 @@ use processor::cpu::Core;
 use registers::words::ProgramAddress;
 use store::meaning::Store;
 
-/// Whether no device can have a number.
+/// The device of a number, if one can have it.
 #[tactic(auto, unfolding(crate::specs::Devices::no_device))]
-fn no_device(n: u32) -> bool
-    ensures value { result ≡ no_device n }
-    ensures first { result ≡ false → 1 ≤ n }
-    ensures last { result ≡ false → n < 256 }
+fn numbered(n: u32) -> Option<u8>
+    ensures { MatchOption result (no_device n ≡ true) (λ d. (no_device n ≡ false) × ((d ≡ n) × (1 ≤ d))) }
 {
-    n == 0 || n > 255
+    u8::try_from(n).ok().filter(|d| *d != 0)
 }
 
 /// The device that a register names, if it answers.
@@ -25,11 +23,9 @@ pub(crate) fn device<S: Store, B: Bus>(m: &Core<S, B>, r1: u8) -> Result<Option<
     ensures named { Names S.Store.meaning B.Bus.devices r1 m.now result }
     ensures first { IfOk result (λ d. IfSome d (λ n. 1 ≤ n)) }
 {
-    let n = device_number(m.reg(r1));
-    if no_device(n) {
+    let Some(d) = numbered(device_number(m.reg(r1))) else {
         return Ok(None);
-    }
-    let d = n as u8;
+    };
     let there = m.answers(d)?;
     Ok(there.then_some(d))
 }
