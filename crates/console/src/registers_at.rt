@@ -12,6 +12,7 @@ use registers::controller::used_bits;
 use registers::words::ProgramAddress;
 use store::meaning::Store;
 
+// `set: u8`: a call may give any number, and this tells which are denied.
 /// Whether there is no register set of a number.
 #[tactic(auto, unfolding(model::specs::Status::no_set))]
 fn no_set(set: u8) -> bool

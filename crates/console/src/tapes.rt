@@ -56,6 +56,7 @@ fn obey_next<'t, S: Store, B: Bus>(
     Ok(command)
 }
 
+// A slice pattern takes each letter (a rule of the project); a command takes as many bytes as its operand has, and `obeyed` is the answer.
 /// Obeys the commands of a tape, up to the first that is denied.
 fn obey_all<S: Store, B: Bus>(
     core: &mut Core<S, B>,

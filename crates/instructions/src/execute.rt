@@ -14,6 +14,7 @@ use processor::cpu::Core;
 use registers::words::ProgramAddress;
 use store::meaning::Store;
 
+// `own` and `first` apart, here and in the bodies: `own` goes on alone, and `first` into the halfwords that are taken apart.
 /// Does an operation, by its form.
 fn body<S: Store, B: Bus>(
     m: &mut Core<S, B>,

@@ -77,6 +77,7 @@ pub fn memory<S: Store, B: Bus>(
 ) -> Result<(), Trap>
     ensures { Does S.Store.meaning B.Bus.devices (memory_tree operation o.r1 o.a.at o.next.at) m.old result m.new }
 {
+    // A match and no table of functions: the arms take different operands, and some answer nothing.
     match operation {
         MemoryOp::Sth => sth(m, o)?,
         MemoryOp::Bal => {

@@ -4,6 +4,7 @@
 ghost use Rattle.isolation.specs.Example.{Example};
 ghost use Rattle.isolation.specs.Isolation.{Isolation};
 
+// In `model` too: a must-fail edit names files of its own crate alone, and both crates have edits that this law refuses.
 /// Stands for the statement: it returns 0.
 pub fn protected_programs_are_isolated() -> u8
     ensures { Isolation }

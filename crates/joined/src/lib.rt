@@ -7,6 +7,7 @@ ghost use Rattle.bus.specs.Devices.{Reads, Writes, Commands};
 
 use bus::meaning::Bus;
 
+// Two parts, as a pair of store banks has: what the parts are differs, and so do all methods but these two.
 /// Two buses as one: a device that answers on the first is the first's in everything, any other is the second's.
 #[derive(Drop)]
 pub struct JoinedBus<A, B> {

@@ -48,6 +48,7 @@ impl<S: Store, B: Bus> Core<S, B> {
         Ok(self.bus.status(device))
     }
 
+    // One method for each effect of the trees, here and below: they differ in the call of the bus alone.
     /// Reads a device, if it answers.
     pub fn read_from(&mut self, device: u8) -> Result<u8, Trap>
         ensures { Gives S.Store.meaning B.Bus.devices (read_from device) self.old result self.new }

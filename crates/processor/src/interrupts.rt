@@ -41,6 +41,7 @@ impl<S: Store, B: Bus> Core<S, B> {
         }
     }
 
+    // A cause and a vector, not one value of both: a caller may take any cause through any PSW of the store.
     /// Saves the status and an address, and loads the PSW at a real address.
     pub fn interrupt(&mut self, cause: Cause, vector: u16, own: ProgramAddress) -> Record
         requires { vector < 2 ^ 15 }

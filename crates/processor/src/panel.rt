@@ -46,6 +46,7 @@ impl<S: Store, B: Bus> Core<S, B> {
         self.store.write(place, word);
     }
 
+    // `set: u8`, here and below: the console hands on any number, and its own check tells which sets are there.
     /// A register of a set.
     pub fn general(&self, set: u8, number: u8) -> u32
         ensures { result ≡ slice_index self.now.registers.words (slot (file_of set) number) }

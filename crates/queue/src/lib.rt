@@ -5,6 +5,7 @@ ghost use Rattle.std.specs.Prelude.{◌≡◌, ◌+◌, ◌-◌, ◌<◌, ◌≤
 ghost use Rattle.std.specs.Iterator.{YieldsFirstRef, item_count};
 ghost use Rattle.queue.specs.Rows.{queued, capacity, unread, HasRoom, SameSlots};
 
+// Lent slots with a count beside them, and no invariant: a rule of the project, since the memory is the caller's.
 /// A queue over lent slots, the oldest item at `head`.
 #[derive(Drop)]
 pub struct Queue<'a, X> {

@@ -13,6 +13,8 @@ use queue::Queue;
 use registers::words::ProgramAddress;
 use store::meaning::Store;
 
+// Room is asked for, and the slots kept, by name in each contract: the trace is lent anew with each call (a rule of the project), and
+// a type that held the `&mut` would make each promise one about its last value.
 /// Adds the record of an interrupt to the trace.
 fn note(trace: &mut Queue<'_, Record>, entry: Record) -> StepAnswer
     requires room { HasRoom trace.old }
