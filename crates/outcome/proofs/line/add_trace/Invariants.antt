@@ -1,8 +1,9 @@
-use Rattle.std.proofs.Common.{◌≡◌, ◌++◌, length, take, vec_items}
-use Rattle.queue.specs.Rows.{queued}
-use Rattle.outcome.specs.Texts.{hex, records_text}
+use Rattle.std.proofs.Common.{◌≡◌, ◌++◌, vec_items}
+use Rattle.queue.specs.Rows.{queued, unread}
+use Rattle.outcome.specs.Texts.{records_text}
 use Rattle.outcome.proofs.line.add_trace.Given as goal
 
--- the text has the records so far
+-- with the records that are left, the text is what it is to be
 abbrev pub invariant-loop-item : goal.invariant-loop-item
-invariant-loop-item l = vec_items l.text ≡ vec_items l.initial.text ++ records_text l.yielded
+invariant-loop-item l =
+    vec_items l.text ++ records_text (unread l.item-iterator) ≡ vec_items l.initial.text ++ records_text (queued l.trace)
