@@ -13,6 +13,7 @@ pub struct Side<'a, S, B> {
     pub list: &'a [Continued],
 }
 
+// A flag beside the answers: `note` asks it before each answer, and the last answer that tells it too may be one of very many.
 /// What a machine answered to a list: the accepted steps, up to and including the first interrupt, and whether there was one.
 #[derive(Drop)]
 pub struct Answered {

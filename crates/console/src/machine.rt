@@ -39,6 +39,7 @@ impl<S: Store, B: Bus> Machine<S, B> {
         }
     }
 
+    // A number: any may be given, and what is no position is denied.
     /// Turns the key: 0 OFF, 1 ON, 2 LOCK.
     pub fn turn_key(&mut self, position: u8) -> Result<(), Denial>
         ensures { Says S.Store.meaning B.Bus.devices (turn_key position) self.old (done_by result) self.new }

@@ -17,6 +17,7 @@ fn hex(v: u32) -> u8
     hex_digit((v % 16) as u8)
 }
 
+// Not by Display: the line is made without memory of its own, so it cannot fail.
 /// The Location Counter in 5 hexadecimal digits, a space, the status in 8, a newline.
 #[tactic(auto, unfolding(crate::specs::Lines::line_of))]
 pub fn psw_line(location: u32, status: u32) -> [u8; 15]
