@@ -39,8 +39,8 @@ pub(crate) fn end<S: Store, B: Bus>(m: &mut Core<S, B>, code: u32, next: Program
 }
 
 /// Goes on where the device does not answer.
-// Each caller has its own `let .. else`: a function that takes what is done with the device as a closure has a contract over
-// every tree of effects, and each caller would name its tree once more, in a proof.
+// Each caller has its own `let .. else`. A closure for what is done with the device was tried: its contract must hold for every
+// tree of effects, and each caller's proof names its tree again.
 pub(crate) fn absent<S: Store, B: Bus>(m: &mut Core<S, B>, next: ProgramAddress)
     ensures { SetsQuietly S.Store.meaning B.Bus.devices (end_tree 4 next.at) m.old m.new }
 {

@@ -10,6 +10,7 @@ use operands::forms::{Addressed, Between};
 use processor::cpu::Core;
 use store::meaning::Store;
 
+// An enum, no closure: each contract names the tree of the output, and one over a closure would have to hold for any function.
 /// What goes out to a device.
 #[derive(Clone, Copy, PartialEq, Eq)]
 pub enum Output {

@@ -14,7 +14,7 @@ use processor::cpu::Core;
 use registers::words::ProgramAddress;
 use store::meaning::Store;
 
-// `own` and `first` apart, here and in the bodies: `own` goes on alone, and `first` into the halfwords that are taken apart.
+// `own` and `first` are no struct, here and in the bodies: each goes elsewhere, `own` to addresses, `first` to `take_apart`.
 /// Does an operation, by its form.
 fn body<S: Store, B: Bus>(
     m: &mut Core<S, B>,

@@ -41,6 +41,7 @@ pub fn immediate_body<S: Store, B: Bus>(
     ensures { Does S.Store.meaning B.Bus.devices (immediate_body operation own.at first) m.old result m.new }
 {
     let second = m.fetch(own.plus(2))?;
+    // Taken apart by slice patterns, here and below: a rule of the project. The halfwords are there, so it is never refused.
     let words = [first, second];
     let parts = take_apart(Form::Pair, &words).ok_or(Trap::Illegal)?;
     let index = index(m, second_field(parts.first));

@@ -24,7 +24,7 @@ use transfers::updates::{ahm, am, ts};
 use words::sums::extended;
 
 /// Applies a function to a register and a halfword of the store.
-// No one function with the next: what they share is `applied`, and the access and the extension differ.
+// Not one function with `with_full`: they share `applied`, and differ in the load and in `extended`.
 fn with_half<S: Store, B: Bus>(
     m: &mut Core<S, B>,
     function: Function,
@@ -150,6 +150,7 @@ pub fn memory_body<S: Store, B: Bus>(
 {
     let second = m.fetch(own.plus(2))?;
     let third = third(m, own, second)?;
+    // Taken apart by slice patterns: a rule of the project. The halfwords are there, so it is never refused.
     let words = [first, second, third];
     let parts = take_apart(Form::Indexed, &words).ok_or(Trap::Illegal)?;
     addressed(m, operation, own, parts)

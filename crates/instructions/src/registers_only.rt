@@ -60,6 +60,7 @@ pub fn register<S: Store, B: Bus>(
 ) -> Result<(), Trap>
     ensures { Does S.Store.meaning B.Bus.devices (register_tree operation o.r1 o.r2 o.next.at) m.old result m.new }
 {
+    // A match and no table of functions: the arms take different operands, and some cannot stop.
     match operation {
         RegisterOp::Balr => balr(m, o),
         RegisterOp::Btcr => {

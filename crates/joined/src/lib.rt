@@ -7,7 +7,7 @@ ghost use Rattle.bus.specs.Devices.{Reads, Writes, Commands};
 
 use bus::meaning::Bus;
 
-// Two parts, as a pair of store banks has: what the parts are differs, and so do all methods but these two.
+// `new` and `into_parts` are as in BankPair: the parts are buses here and stores there, and no other method is shared.
 /// Two buses as one: a device that answers on the first is the first's in everything, any other is the second's.
 #[derive(Drop)]
 pub struct JoinedBus<A, B> {
@@ -44,7 +44,7 @@ fn lower(first: Option<u8>, second: Option<u8>) -> Option<u8>
     }
 }
 
-// Each method asks once which bus has the device: the two are of different types, so no one reference stands for either.
+// Each method asks which bus has the device: one that handed out a `&dyn Bus` for either is refused (a rule of the gate).
 impl<A: Bus, B: Bus> Bus for JoinedBus<A, B> {
     ghost devices = { λ j. joined (A.Bus.devices j.first) (B.Bus.devices j.second) };
 

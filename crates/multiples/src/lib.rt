@@ -13,6 +13,7 @@ use processor::cpu::Core;
 use registers::words::ProgramAddress;
 use store::meaning::Store;
 
+// An enum, no closure: each contract names the tree of the way, and one over a closure would have to hold for any function.
 /// Which way registers and fullwords move.
 #[derive(Clone, Copy, PartialEq, Eq)]
 pub enum Way {

@@ -22,6 +22,7 @@ pub fn apply<S: Store, B: Bus>(m: &mut Core<S, B>, function: Function, r1: u8, y
     ensures { SetsQuietly S.Store.meaning B.Bus.devices (apply_tree function r1 y) m.old m.new }
 {
     let x = m.reg(r1);
+    // A match, no table of functions: some arms keep a result and some only its code.
     match function {
         Function::And => result(m, r1, x & y),
         Function::CompareLogical => m.set_code(compare_logical_code(x, y).bits()),

@@ -6,7 +6,7 @@ use fields::parts::{bytes_exchanged, halves_exchanged, low_byte, with_low_byte, 
 use processor::cpu::Core;
 use store::meaning::Store;
 
-// The two numbers alone: these go nowhere, and the address in `Between` would be of no use to them.
+// r1 and r2, not Between: these do not jump.
 
 /// Moves a register with its halves exchanged.
 pub fn exhr<S: Store, B: Bus>(m: &mut Core<S, B>, r1: u8, r2: u8)

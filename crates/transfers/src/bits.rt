@@ -11,6 +11,7 @@ use processor::cpu::Core;
 use registers::words::ProgramAddress;
 use store::meaning::Store;
 
+// An enum, no closure: the contract names the tree of the change, and one over a closure would have to hold for any function.
 /// What an instruction makes of a bit.
 #[derive(Clone, Copy, PartialEq, Eq)]
 pub enum BitChange {
