@@ -1,6 +1,6 @@
 //! Single bits of a halfword, numbered from the left.
 
-ghost use Rattle.std.specs.Prelude.{◌≡◌, ◌<◌};
+ghost use Rattle.std.specs.Prelude.{◌≡◌, cond};
 ghost use Rattle.fields.specs.Bits.{bit_offset, bit_weight, bit_of, with_bit, without_bit, with_bit_flipped};
 ghost use Rattle.fields.specs.Laws.{BitsWritten, BitsKept};
 
@@ -20,14 +20,12 @@ fn bit_weight(n: u32) -> u16
     1 << (15 - n % 16)
 }
 
-/// Bit `n` in its halfword.
-// A number: each caller multiplies it by a weight of the condition code.
+/// Whether bit `n` in its halfword is 1.
 #[tactic(auto, unfolding(crate::specs::Bits::bit_of, crate::specs::Bits::bit_weight))]
-pub fn bit_of(n: u32, h: u16) -> u32
-    ensures value { result ≡ bit_of n h }
-    ensures small { result < 2 }
+pub fn bit_of(n: u32, h: u16) -> bool
+    ensures { cond result 1 0 ≡ bit_of n h }
 {
-    (h >> (15 - n % 16)) as u32 % 2
+    (h >> (15 - n % 16)) % 2 == 1
 }
 
 /// The halfword with bit `n` 1.

@@ -25,7 +25,7 @@ pub fn low_half(v: u32) -> u16
 pub fn joined(high: u16, low: u16) -> u32
     ensures { result ≡ joined high low }
 {
-    high as u32 * 0x1_0000 + low as u32
+    u32::from(high) * 0x1_0000 + u32::from(low)
 }
 
 /// The fullword with another low halfword.
@@ -33,7 +33,7 @@ pub fn joined(high: u16, low: u16) -> u32
 pub fn with_low_half(v: u32, h: u16) -> u32
     ensures { result ≡ with_low_half v h }
 {
-    v / 0x1_0000 * 0x1_0000 + h as u32
+    v / 0x1_0000 * 0x1_0000 + u32::from(h)
 }
 
 /// The fullword with its halfwords exchanged.
@@ -58,7 +58,7 @@ pub fn low_byte(v: u32) -> u8
 pub fn with_low_byte(v: u32, b: u8) -> u32
     ensures { result ≡ with_low_byte v b }
 {
-    v / 0x100 * 0x100 + b as u32
+    v / 0x100 * 0x100 + u32::from(b)
 }
 
 /// The low halfword of a fullword, with its bytes exchanged.

@@ -10,6 +10,7 @@ use operands::forms::Addressed;
 use processor::cpu::Core;
 use registers::words::ProgramAddress;
 use store::meaning::Store;
+use words::codes::{POSITIVE, flag};
 
 // An enum, no closure: the contract names the tree of the change, and one over a closure would have to hold for any function.
 /// What an instruction makes of a bit.
@@ -45,7 +46,7 @@ pub fn tbt<S: Store, B: Bus>(m: &mut Core<S, B>, o: Addressed) -> Result<(), Tra
 {
     let n = m.reg(o.r1);
     let half = m.load(bit_place(o.a, n))?;
-    m.set_code(2 * bit_of(n, half));
+    m.set_code(flag(POSITIVE, bit_of(n, half)));
     m.jump(o.next);
     Ok(())
 }
@@ -62,5 +63,5 @@ pub fn change_bit<S: Store, B: Bus>(
     let place = bit_place(o.a, n);
     let half = m.load(place)?;
     let new = changed(change, n, half);
-    written(m, place, new, 2 * bit_of(n, half), o.next)
+    written(m, place, new, flag(POSITIVE, bit_of(n, half)), o.next)
 }

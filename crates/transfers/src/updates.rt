@@ -10,6 +10,7 @@ use operands::forms::Addressed;
 use processor::cpu::Core;
 use registers::words::ProgramAddress;
 use store::meaning::Store;
+use words::codes::{NEGATIVE, flag};
 use words::sums::{extended, sum, sum_code};
 
 /// Stores a halfword, and only then sets the condition code.
@@ -61,5 +62,11 @@ pub fn ts<S: Store, B: Bus>(m: &mut Core<S, B>, o: Addressed) -> Result<(), Trap
     ensures { Does S.Store.meaning B.Bus.devices (ts_tree o.a.at o.next.at) m.old result m.new }
 {
     let half = m.load(o.a.to_half())?;
-    written(m, o.a.to_half(), with_bit(0, half), bit_of(0, half), o.next)
+    written(
+        m,
+        o.a.to_half(),
+        with_bit(0, half),
+        flag(NEGATIVE, bit_of(0, half)),
+        o.next,
+    )
 }
