@@ -1,7 +1,8 @@
 -- Histories and lists that go on by one call.
-use Rattle.std.proofs.Common.{◌≡◌, ℕ, ◌+◌, ◌<◌, Bool, true, false, List, [], ◌∷◌, ◌++◌, map, length, get_or, take, Some, None, Ok, Err, Option, Result, sym, refl, ap, ◌∙◌, subst, arith}
+use Rattle.std.proofs.Common.{◌≡◌, ℕ, ◌+◌, ◌-◌, ◌<◌, Bool, true, false, List, [], ◌∷◌, ◌++◌, map, length, get_or, take, Some, None, Ok, Err, Option, Result, sym, refl, ap, ◌∙◌, subst, arith}
 use mathlib.Core.Bool.{false≢true}
-use Rattle.std.proofs.lemmas.List.{take_more, map_push}
+use Rattle.std.proofs.lemmas.List.{take_more, map_push, length_push, get_or_push}
+use Rattle.std.proofs.lemmas.Option.{slice_get_read}
 use Rattle.std.specs.Result.{result_ok}
 use Rattle.model.specs.declared.Denial.{Denial}
 use Rattle.model.specs.declared.Record.{Record}
@@ -20,7 +21,7 @@ use Rattle.isolation.proofs.Whole.{isolation}
 use Rattle.comparison.specs.declared.calls.Call.{Call}
 use Rattle.comparison.specs.declared.calls.Call.TheVariants.{TurnKey, Initialise, Examine, Deposit, Set, Show, Step, Run, Play}
 use Rattle.comparison.specs.declared.calls.Continued.{Continued as Asking}
-use Rattle.comparison.specs.Lists.{Performs, PerformsAll, AskedAs, AllAsked, is_interrupt, Reports, FollowedOne, Noted, after_all, Tells, Followed, Gone, Compared}
+use Rattle.comparison.specs.Lists.{Performs, PerformsAll, AskedAs, AllAsked, is_interrupt, tells_interrupt, ends_interrupted, Reports, FollowedOne, Noted, after_all, Tells, Followed, Gone, Compared}
 
 -- ── Histories ──
 performs_none : (w : Desk) → PerformsAll [] w w
@@ -123,42 +124,54 @@ pushed :
 pushed xs ys zs a x y ex ea er ez =
     ap (λ (l : List Answer). l ++ a ∷ []) ex ∙ (ap (λ (z : Answer). map stepped ys ++ z ∷ []) (ea ∙ ap stepped (sym (same x y er))) ∙ (sym (map_push stepped ys x) ∙ ap (map stepped) (sym ez)))
 
+-- An answer that is added is the last.
+ends_push : (ys : List StepAnswer) (x : StepAnswer) → ends_interrupted (ys ++ x ∷ []) ≡ is_interrupt x
+ends_push ys x =
+    let zs = ys ++ x ∷ [] in
+    let long : length zs ≡ length ys + 1 = length_push ys x in
+    let at : length ys ≡ length zs - 1 = omega arith in
+    let within : length zs - 1 < length zs = omega arith in
+    ap tells_interrupt (slice_get_read zs (length zs) (length zs - 1) x refl within (sym (get_or_push ys x x (length zs - 1) at)))
+
+ends_with : (ys zs : List StepAnswer) (x y : StepAnswer) → zs ≡ ys ++ x ∷ [] → Some x ≡ Some y → ends_interrupted zs ≡ is_interrupt y
+ends_with ys zs x y ez er = ap ends_interrupted ez ∙ (ends_push ys x ∙ ap is_interrupt (same x y er))
+
 -- What is told of a course and of one more call is told of both.
 tells_more :
-    (c : Course) (e : Event) (t : State) (r : Option StepAnswer) (ys zs : List StepAnswer) (b d : Bool) →
-    Tells c ys b → Reports e r → Noted r ys b zs d → Tells (extended c e t) zs d
-tells_more (broken xs k s) e t None ys zs b d h p n = (h.0 ∙ ap (map stepped) (sym n.0), n.1 ∙ h.1)
-tells_more (broken xs k s) e t (Some x) ys zs true d h p n = (h.0 ∙ ap (map stepped) (sym n.0), n.1)
-tells_more (broken xs k s) e t (Some x) ys zs false d h p n = absurd (false≢true h.1)
-tells_more (quiet xs s) unseen t None ys zs b d h p n = (h.0 ∙ ap (map stepped) (sym n.0), n.1 ∙ h.1)
-tells_more (quiet xs s) unseen t (Some x) ys zs b d h p n = let z : ◌≡◌ {A = ℕ} 0 1 = cc in absurd (omega arith)
-tells_more (quiet xs s) (answered a) t None ys zs b d h p n = let q = p.2 in let z : ◌≡◌ {A = ℕ} 0 1 = cc in absurd (omega arith)
-tells_more (quiet xs s) (answered a) t (Some x) ys zs true d h p n = absurd (false≢true (sym h.1))
-tells_more (quiet xs s) (answered a) t (Some x) ys zs false d h p n = (pushed xs ys zs a x p.0 h.0 p.1 p.2 n.0, n.1 ∙ (ap is_interrupt (same x p.0 p.2) ∙ p.3))
-tells_more (quiet xs s) (interrupted a k) t None ys zs b d h p n = let q = p.2 in let z : ◌≡◌ {A = ℕ} 0 1 = cc in absurd (omega arith)
-tells_more (quiet xs s) (interrupted a k) t (Some x) ys zs true d h p n = absurd (false≢true (sym h.1))
-tells_more (quiet xs s) (interrupted a k) t (Some x) ys zs false d h p n = (pushed xs ys zs a x p.0 h.0 p.1 p.2 n.0, n.1 ∙ (ap is_interrupt (same x p.0 p.2) ∙ p.3))
+    (c : Course) (e : Event) (t : State) (r : Option StepAnswer) (ys zs : List StepAnswer) (b : Bool) →
+    ends_interrupted ys ≡ b → Tells c ys → Reports e r → Noted r ys b zs → Tells (extended c e t) zs
+tells_more (broken xs k s) e t None ys zs b is h p n = (h.0 ∙ ap (map stepped) (sym n), ap ends_interrupted n ∙ h.1)
+tells_more (broken xs k s) e t (Some x) ys zs true is h p n = (h.0 ∙ ap (map stepped) (sym n), ap ends_interrupted n ∙ h.1)
+tells_more (broken xs k s) e t (Some x) ys zs false is h p n = absurd (false≢true (sym is ∙ h.1))
+tells_more (quiet xs s) unseen t None ys zs b is h p n = (h.0 ∙ ap (map stepped) (sym n), ap ends_interrupted n ∙ h.1)
+tells_more (quiet xs s) unseen t (Some x) ys zs b is h p n = let z : ◌≡◌ {A = ℕ} 0 1 = cc in absurd (omega arith)
+tells_more (quiet xs s) (answered a) t None ys zs b is h p n = let q = p.2 in let z : ◌≡◌ {A = ℕ} 0 1 = cc in absurd (omega arith)
+tells_more (quiet xs s) (answered a) t (Some x) ys zs true is h p n = absurd (false≢true (sym h.1 ∙ is))
+tells_more (quiet xs s) (answered a) t (Some x) ys zs false is h p n = (pushed xs ys zs a x p.0 h.0 p.1 p.2 n, ends_with ys zs x p.0 n p.2 ∙ p.3)
+tells_more (quiet xs s) (interrupted a k) t None ys zs b is h p n = let q = p.2 in let z : ◌≡◌ {A = ℕ} 0 1 = cc in absurd (omega arith)
+tells_more (quiet xs s) (interrupted a k) t (Some x) ys zs true is h p n = absurd (false≢true (sym h.1 ∙ is))
+tells_more (quiet xs s) (interrupted a k) t (Some x) ys zs false is h p n = (pushed xs ys zs a x p.0 h.0 p.1 p.2 n, ends_with ys zs x p.0 n p.2 ∙ p.3)
 
-pub followed_start : (asked : List Asking) (w : Desk) (ys : List StepAnswer) → ys ≡ [] → Followed (take 0 asked) w ys false w
-followed_start asked w ys e = record { list = []; each = tt; leads = refl; tells = (ap (map stepped) (sym e), refl) }
+pub followed_start : (asked : List Asking) (w : Desk) (ys : List StepAnswer) → ys ≡ [] → Followed (take 0 asked) w ys w
+followed_start asked w ys e = record { list = []; each = tt; leads = refl; tells = (ap (map stepped) (sym e), ap ends_interrupted e) }
 
 pub followed_more :
-    (asked : List Asking) (i : ℕ) (x : Asking) (w u v : Desk) (ys zs : List StepAnswer) (b d : Bool) (r : Option StepAnswer) →
-    i < length asked → x ≡ get_or asked i x → Followed (take i asked) w ys b u → FollowedOne x u r v → Noted r ys b zs d → Followed (take (i + 1) asked) w zs d v
-followed_more asked i x w u v ys zs b d r l is h one n =
+    (asked : List Asking) (i : ℕ) (x : Asking) (w u v : Desk) (ys zs : List StepAnswer) (r : Option StepAnswer) →
+    i < length asked → x ≡ get_or asked i x → Followed (take i asked) w ys u → FollowedOne x u r v → Noted r ys (ends_interrupted ys) zs → Followed (take (i + 1) asked) w zs v
+followed_more asked i x w u v ys zs r l is h one n =
     let more : take (i + 1) asked ≡ take i asked ++ x ∷ [] = take_more asked i x l ∙ ap (λ (z : Asking). take i asked ++ z ∷ []) (sym is) in
     let c = one.what in
     let list = h.list in
     let at = h.leads in
     let told : Reports (event instruction c (after_all list w)) r = subst (λ (z : Desk). Reports (event instruction c z) r) (sym at) one.tells in
-    subst (λ (z : List Asking). Followed z w zs d v) (sym more)
+    subst (λ (z : List Asking). Followed z w zs v) (sym more)
     (record {
       list = list ++ c ∷ [];
       each = asked_more (take i asked) list x c h.each one.each;
       leads = after_more list c w ∙ (ap (λ (z : Desk). after instruction c z) at ∙ one.leads);
       tells =
-          subst (λ (z : Course). Tells z zs d) (sym (course_more list c w))
-          (tells_more (course instruction list w) (event instruction c (after_all list w)) (after instruction c (after_all list w)).core r ys zs b d h.tells told n);
+          subst (λ (z : Course). Tells z zs) (sym (course_more list c w))
+          (tells_more (course instruction list w) (event instruction c (after_all list w)) (after instruction c (after_all list w)).core r ys zs (ends_interrupted ys) refl h.tells told n);
     })
 
 -- ── What a history reaches ──
@@ -180,8 +193,8 @@ reached_all (c ∷ cs) w v h r = reached_all cs h.0 v h.2 (reached_one c w h.0 h
 
 -- ── Two machines ──
 pub compared :
-    {m n : Store} {b d : Bus} {past other : List Call} {asked wanted : List Asking} {ys zs : List StepAnswer} {y z : Bool} →
-    Gone m b past asked ys y → Gone n d other wanted zs z → Compared m n b d past other asked wanted ys zs y z
+    {m n : Store} {b d : Bus} {past other : List Call} {asked wanted : List Asking} {ys zs : List StepAnswer} →
+    Gone m b past asked ys → Gone n d other wanted zs → Compared m n b d past other asked wanted ys zs
 compared {m} {n} {b} {d} {past} {other} one two = record {
   one = one;
   two = two;

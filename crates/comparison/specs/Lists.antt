@@ -1,5 +1,5 @@
 -- Histories and lists of calls, as the code performs them.
-use Rattle.std.specs.Prelude.{◌≡◌, ℕ, Bool, true, false, List, [], ◌∷◌, ◌++◌, map, Some, None, Option}
+use Rattle.std.specs.Prelude.{◌≡◌, ℕ, Bool, true, false, List, [], ◌∷◌, ◌++◌, map, length, ◌-◌, slice_get, Some, None, Option}
 use Rattle.model.specs.declared.Record.{Record}
 use Rattle.model.specs.declared.StepAnswer.{StepAnswer}
 use Rattle.model.specs.declared.StepAnswer.TheVariants.{Done, Waiting, Interrupted}
@@ -72,41 +72,49 @@ pub record FollowedOne (asking : Asking) (w : Desk) (r : Option StepAnswer) (v :
   pub leads : after instruction what w ≡ v
   pub tells : Reports (event instruction what w) r
 
+-- Whether the last answer, where there is one, is an interrupt's.
+abbrev pub tells_interrupt : Option StepAnswer → Bool
+tells_interrupt None = false
+tells_interrupt (Some s) = is_interrupt s
+
+abbrev pub ends_interrupted : List StepAnswer → Bool
+ends_interrupted ys = tells_interrupt (slice_get ys (length ys - 1))
+
 -- What is known of the program after one more call: an answer more, unless there was an interrupt.
-abbrev pub Noted : Option StepAnswer → List StepAnswer → Bool → List StepAnswer → Bool → Type 0
-Noted None ys b zs d = (zs ≡ ys) × (d ≡ b)
-Noted (Some s) ys true zs d = (zs ≡ ys) × (d ≡ true)
-Noted (Some s) ys false zs d = (zs ≡ ys ++ s ∷ []) × (d ≡ is_interrupt s)
+abbrev pub Noted : Option StepAnswer → List StepAnswer → Bool → List StepAnswer → Type 0
+Noted None ys b zs = zs ≡ ys
+Noted (Some s) ys true zs = zs ≡ ys
+Noted (Some s) ys false zs = zs ≡ ys ++ s ∷ []
 
 -- The machine after all calls of a list.
 abbrev pub after_all : List Continued → Desk → Desk
 after_all [] w = w
 after_all (c ∷ l) w = after_all l (after instruction c w)
 
--- The answers of the accepted steps up to and including the first interrupt, and whether there was one.
-abbrev pub Tells : Course → List StepAnswer → Bool → Type 0
-Tells (quiet xs s) ys b = (xs ≡ map stepped ys) × (b ≡ false)
-Tells (broken xs r s) ys b = (xs ≡ map stepped ys) × (b ≡ true)
+-- The answers of the accepted steps up to and including the first interrupt, which is the last where there is one.
+abbrev pub Tells : Course → List StepAnswer → Type 0
+Tells (quiet xs s) ys = (xs ≡ map stepped ys) × (ends_interrupted ys ≡ false)
+Tells (broken xs r s) ys = (xs ≡ map stepped ys) × (ends_interrupted ys ≡ true)
 
 -- The calls asked, made on the machine w, lead to v, and are answered so.
-pub record Followed (asked : List Asking) (w : Desk) (ys : List StepAnswer) (b : Bool) (v : Desk) : Type 0 where
+pub record Followed (asked : List Asking) (w : Desk) (ys : List StepAnswer) (v : Desk) : Type 0 where
   pub list : List Continued
   pub each : AllAsked asked list
   pub leads : after_all list w ≡ v
-  pub tells : Tells (course instruction list w) ys b
+  pub tells : Tells (course instruction list w) ys
 
 -- ── Two machines ──
 -- A machine is made, has its history, and then its list, which is answered so.
-pub record Gone (m : Store) (b : Bus) (past : List Call) (asked : List Asking) (ys : List StepAnswer) (y : Bool) : Type 0 where
+pub record Gone (m : Store) (b : Bus) (past : List Call) (asked : List Asking) (ys : List StepAnswer) : Type 0 where
   pub start : Desk
   pub pasts : PerformsAll past (made m b) start
   pub finish : Desk
-  pub followed : Followed asked start ys y finish
+  pub followed : Followed asked start ys finish
 
 -- Two machines go so; and the lists are isolated if the two look alike at their start.
-pub record Compared (m n : Store) (b d : Bus) (past other : List Call) (asked wanted : List Asking) (ys zs : List StepAnswer) (y z : Bool) : Type 0 where
-  pub one : Gone m b past asked ys y
-  pub two : Gone n d other wanted zs z
+pub record Compared (m n : Store) (b d : Bus) (past other : List Call) (asked wanted : List Asking) (ys zs : List StepAnswer) : Type 0 where
+  pub one : Gone m b past asked ys
+  pub two : Gone n d other wanted zs
   pub isolated :
       LookAlike one.start.core two.start.core → Allowed instruction one.start one.followed.list → Allowed instruction two.start two.followed.list →
       Isolated instruction one.start two.start one.followed.list two.followed.list

@@ -49,12 +49,11 @@ pub(crate) fn follow<S: Store, B: Bus>(
     trace: &mut Queue<'_, Record>,
     heap: Global,
 ) -> Result<Answered, AllocError>
-    ensures does { IfOk result (λ a. Followed asked.now (desk_of S.Store.meaning B.Bus.devices machine.old) a.answers.items a.interrupted (desk_of S.Store.meaning B.Bus.devices machine.new)) }
+    ensures does { IfOk result (λ a. Followed asked.now (desk_of S.Store.meaning B.Bus.devices machine.old) a.answers.items (desk_of S.Store.meaning B.Bus.devices machine.new)) }
     ensures same { SameSlots trace.old trace.new }
 {
     let mut answered = Answered {
         answers: Vec::with_capacity(heap, asked.len())?,
-        interrupted: false,
     };
     for asking in asked {
         answered.note(follow_one(machine, *asking, trace));

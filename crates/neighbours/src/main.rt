@@ -116,7 +116,7 @@ fn main(rt: HostRuntime) -> io::Result<()> {
     println!(rt;
         "agreed on {} answers; interrupts {} {}",
         agreed(&report.one.answers, &report.other.answers),
-        report.one.interrupted,
-        report.other.interrupted
+        report.one.interrupted(),
+        report.other.interrupted()
     )
 }

@@ -8,7 +8,7 @@ use Rattle.comparison.proofs.follow.follow.Given as goal
 abbrev pub invariant-loop-asking : goal.invariant-loop-asking
 invariant-loop-asking g l =
     record {
-      followed : Followed (take l.asking-index l.asked) (desk_of g.S.Store.meaning g.B.Bus.devices l.initial.machine) (vec_items l.answered.answers) l.answered.interrupted (desk_of g.S.Store.meaning g.B.Bus.devices l.machine);
+      followed : Followed (take l.asking-index l.asked) (desk_of g.S.Store.meaning g.B.Bus.devices l.initial.machine) (vec_items l.answered.answers) (desk_of g.S.Store.meaning g.B.Bus.devices l.machine);
       part : vec_len l.answered.answers ≤ l.asking-index;
       within : l.asking-index ≤ length l.asked;
       room : length l.asked ≤ vec_capacity l.answered.answers;
