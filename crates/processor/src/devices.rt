@@ -48,7 +48,6 @@ impl<S: Store, B: Bus> Core<S, B> {
         Ok(self.bus.status(device))
     }
 
-    // One method for each effect of the trees, here and below: they differ in the call of the bus alone.
     /// Reads a device, if it answers.
     pub fn read_from(&mut self, device: u8) -> Result<u8, Trap>
         ensures { Gives S.Store.meaning B.Bus.devices (read_from device) self.old result self.new }
@@ -60,6 +59,7 @@ impl<S: Store, B: Bus> Core<S, B> {
         Ok(self.bus.read(device))
     }
 
+    // write_to and command_to stay two: the model has an effect for each, and each is proved against its own.
     /// Writes a byte to a device, if it answers.
     pub fn write_to(&mut self, device: u8, byte: u8) -> Result<(), Trap>
         ensures { Does S.Store.meaning B.Bus.devices (write_to device byte) self.old result self.new }

@@ -6,6 +6,7 @@ ghost use Rattle.processor.specs.View.{state_of, Leads};
 
 use crate::cpu::Core;
 use bus::meaning::Bus;
+use fields::parts::joined;
 use model::{Cause, Record};
 use registers::file::RegisterSet;
 use registers::words::{ProgramAddress, Psw};
@@ -20,13 +21,13 @@ impl<S: Store, B: Bus> Core<S, B> {
     }
 
     /// The fullword of the store at a real address.
-    #[tactic(auto, unfolding(model::specs::Stores::full_at))]
+    #[tactic(auto, unfolding(model::specs::Stores::full_at, fields::specs::Parts::joined))]
     fn full_at(&self, address: u16) -> u32
         ensures { result ≡ full_at (S.Store.meaning self.now.store) address }
     {
         let high = self.store.read(address as usize / 2);
         let low = self.store.read(address as usize / 2 + 1);
-        high as u32 * 0x1_0000 + low as u32
+        joined(high, low)
     }
 
     /// The record of an interrupt that saves an address.
@@ -41,7 +42,7 @@ impl<S: Store, B: Bus> Core<S, B> {
         }
     }
 
-    // A cause and a vector, not one value of both: a caller may take any cause through any PSW of the store.
+    // Cause and vector apart: any cause through any PSW is promised, and a type of the three pairs would ask more of callers.
     /// Saves the status and an address, and loads the PSW at a real address.
     pub fn interrupt(&mut self, cause: Cause, vector: u16, own: ProgramAddress) -> Record
         requires { vector < 2 ^ 15 }
@@ -67,7 +68,7 @@ impl<S: Store, B: Bus> Core<S, B> {
         self.registers.put(RegisterSet::First, 15, u32::from(next));
         self.psw = Psw::new(
             self.full_at(0x98),
-            self.half_at(0x9c + 2 * number as u16) as u32,
+            u32::from(self.half_at(0x9c + 2 * u16::from(number))),
         );
         record
     }
@@ -78,14 +79,14 @@ impl<S: Store, B: Bus> Core<S, B> {
     {
         let own = self.psw.location();
         let record = self.record(Cause::DeviceRequest, own);
-        let entry = self.half_at(0xd0 + 2 * device as u16);
+        let entry = self.half_at(0xd0 + 2 * u16::from(device));
         self.registers.put(RegisterSet::First, 0, self.psw.status());
         self.registers.put(RegisterSet::First, 1, u32::from(own));
-        self.registers.put(RegisterSet::First, 2, device as u32);
+        self.registers.put(RegisterSet::First, 2, u32::from(device));
         self.registers
-            .put(RegisterSet::First, 3, self.bus.status(device) as u32);
-        self.registers.put(RegisterSet::First, 4, entry as u32);
-        self.psw = Psw::new(0x2800, entry as u32);
+            .put(RegisterSet::First, 3, u32::from(self.bus.status(device)));
+        self.registers.put(RegisterSet::First, 4, u32::from(entry));
+        self.psw = Psw::new(0x2800, u32::from(entry));
         record
     }
 

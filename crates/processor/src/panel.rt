@@ -46,19 +46,20 @@ impl<S: Store, B: Bus> Core<S, B> {
         self.store.write(place, word);
     }
 
-    // `set: u8`, here and below: the console hands on any number, and its own check tells which sets are there.
+    // u8, not RegisterSet, here and below: each promises something of any number, and a narrower type would ask more of callers.
     /// A register of a set.
     pub fn general(&self, set: u8, number: u8) -> u32
         ensures { result ≡ slice_index self.now.registers.words (slot (file_of set) number) }
     {
-        self.registers.get(RegisterSet::from(set), number)
+        self.registers.get(RegisterSet::numbered(set), number)
     }
 
     /// Gives a register of a set another number.
     pub fn set_general(&mut self, set: u8, number: u8, value: u32)
         ensures { Becomes S.Store.meaning B.Bus.devices (with_registers (replaced self.old.registers.words (slot (file_of set) number) value)) self.old self.new }
     {
-        self.registers.put(RegisterSet::from(set), number, value);
+        self.registers
+            .put(RegisterSet::numbered(set), number, value);
     }
 
     /// A segmentation register; numbers wrap at 16.

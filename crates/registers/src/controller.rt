@@ -1,6 +1,6 @@
 ghost use Rattle.std.specs.Prelude.{◌≡◌, Bool, ℕ, ◌+◌, ◌*◌, ◌/◌, ◌%◌, ◌^◌, ◌<◌, length, get_or, set as replaced, replicate};
 ghost use Rattle.std.specs.Int.Bits.{bit_or};
-ghost use Rattle.model.specs.Controller.{limit_of, relocation_of, no_execute_of, write_mode_of, present_of, used, chosen, block, within, present, no_execute, real, on_write, verdict, faults_noted, is_controller, is_segment, segment_at, is_faults, clears_faults, half_of, with_half, controller_half, segments_after, faults_after_read};
+ghost use Rattle.model.specs.Controller.{limit_of, relocation_of, no_execute_of, write_mode_of, present_of, used, chosen, block, real, on_write, verdict, faults_noted, is_controller, is_segment, segment_at, is_faults, clears_faults, half_of, with_half, controller_half, segments_after, faults_after_read};
 
 use crate::words::{ProgramAddress, RealAddress};
 use model::{Access, Grant, Violation};
@@ -12,29 +12,48 @@ pub struct Controller {
     faults: u32,
 }
 
-fn limit_of(segment: u32) -> u32
-    ensures { result ≡ limit_of segment }
-{
-    segment / 0x10_0000 % 256
+/// A segmentation register.
+#[derive(Clone, Copy)]
+struct Segment {
+    word: u32,
 }
 
-fn relocation_of(segment: u32) -> u32
-    ensures value { result ≡ relocation_of segment }
-    ensures small { result < 4096 }
-{
-    segment / 256 % 4096
-}
+impl Segment {
+    fn limit(self) -> u32
+        ensures { result ≡ limit_of self.word }
+    {
+        self.word / 0x10_0000 % 256
+    }
 
-fn no_execute_of(segment: u32) -> bool
-    ensures { result ≡ no_execute_of segment }
-{
-    segment / 128 % 2 == 1
-}
+    fn relocation(self) -> u32
+        ensures value { result ≡ relocation_of self.word }
+        ensures small { result < 4096 }
+    {
+        self.word / 256 % 4096
+    }
 
-fn present_of(segment: u32) -> bool
-    ensures { result ≡ present_of segment }
-{
-    segment / 16 % 2 == 1
+    fn no_execute(self) -> bool
+        ensures { result ≡ no_execute_of self.word }
+    {
+        self.word / 128 % 2 == 1
+    }
+
+    fn present(self) -> bool
+        ensures { result ≡ present_of self.word }
+    {
+        self.word / 16 % 2 == 1
+    }
+
+    /// What the bits W say of a write.
+    fn on_write(self) -> Result<Grant, Violation>
+        ensures { result ≡ on_write (write_mode_of self.word) }
+    {
+        match self.word / 32 % 4 {
+            0b00 => Ok(Grant::Plain),
+            0b10 => Ok(Grant::Reported),
+            _ => Err(Violation::WriteProtected),
+        }
+    }
 }
 
 /// A word with the bits that a segmentation register does not have at zero.
@@ -51,61 +70,55 @@ fn block_of(a: ProgramAddress) -> u32
     a.at / 256 % 256
 }
 
-/// What the bits W of a segmentation register say of a write.
-fn on_write(segment: u32) -> Result<Grant, Violation>
-    ensures { result ≡ on_write (write_mode_of segment) }
-{
-    match segment / 32 % 4 {
-        0b00 => Ok(Grant::Plain),
-        0b10 => Ok(Grant::Reported),
-        _ => Err(Violation::WriteProtected),
-    }
-}
-
-fn half_of(r: RealAddress, word: u32) -> u16
-    ensures { result ≡ half_of r.at word }
-{
-    if r.at / 2 % 2 == 0 {
-        (word / 0x1_0000) as u16
-    } else {
-        (word % 0x1_0000) as u16
-    }
-}
-
-fn with_half(r: RealAddress, half: u16, word: u32) -> u32
-    ensures { result ≡ with_half r.at half word }
-{
-    if r.at / 2 % 2 == 0 {
-        half as u32 * 0x1_0000 + word % 0x1_0000
-    } else {
-        word / 0x1_0000 * 0x1_0000 + half as u32
-    }
-}
-
-fn is_segment(r: RealAddress) -> bool
-    ensures { result ≡ is_segment r.at }
-{
-    r.at % 256 < 0x40
-}
-
-fn is_faults(r: RealAddress) -> bool
-    ensures { result ≡ is_faults r.at }
-{
-    r.at % 256 / 4 == 0x10
-}
-
-fn clears_faults(r: RealAddress) -> bool
-    ensures { result ≡ clears_faults r.at }
-{
-    r.at % 256 / 2 == 0x21
-}
-
 impl RealAddress {
     /// Whether it is one of the controller's own addresses, X'300' to X'3FF'.
     pub fn is_controller(self) -> bool
         ensures { result ≡ is_controller self.at }
     {
         self.at / 256 == 3
+    }
+
+    /// Whether it is that of a segmentation register.
+    fn is_segment(self) -> bool
+        ensures { result ≡ is_segment self.at }
+    {
+        self.at % 256 < 0x40
+    }
+
+    /// Whether it is that of the interrupt status.
+    fn is_faults(self) -> bool
+        ensures { result ≡ is_faults self.at }
+    {
+        self.at % 256 / 4 == 0x10
+    }
+
+    /// Whether a read at it clears the interrupt status.
+    fn clears_faults(self) -> bool
+        ensures { result ≡ clears_faults self.at }
+    {
+        self.at % 256 / 2 == 0x21
+    }
+
+    /// The half of a register at it.
+    fn half_of(self, word: u32) -> u16
+        ensures { result ≡ half_of self.at word }
+    {
+        if self.at / 2 % 2 == 0 {
+            (word / 0x1_0000) as u16
+        } else {
+            (word % 0x1_0000) as u16
+        }
+    }
+
+    /// A register with another half at it.
+    fn with_half(self, half: u16, word: u32) -> u32
+        ensures { result ≡ with_half self.at half word }
+    {
+        if self.at / 2 % 2 == 0 {
+            u32::from(half) * 0x1_0000 + word % 0x1_0000
+        } else {
+            word / 0x1_0000 * 0x1_0000 + u32::from(half)
+        }
     }
 }
 
@@ -148,47 +161,32 @@ impl Controller {
         ensures segments { self.new.segments ≡ self.old.segments }
         ensures faults { self.new.faults ≡ bit_or self.old.faults bit }
     {
-        self.faults |= bit as u32;
+        self.faults |= u32::from(bit);
     }
 
-    fn chosen(&self, a: ProgramAddress) -> u32
-        ensures { result ≡ chosen self.now.segments a.at }
+    fn chosen(&self, a: ProgramAddress) -> Segment
+        ensures { result.word ≡ chosen self.now.segments a.at }
     {
-        self.segments[(a.at / 0x1_0000 % 16) as usize]
-    }
-
-    fn within(&self, a: ProgramAddress) -> bool
-        ensures { result ≡ within self.now.segments a.at }
-    {
-        block_of(a) <= limit_of(self.chosen(a))
-    }
-
-    fn present(&self, a: ProgramAddress) -> bool
-        ensures { result ≡ present self.now.segments a.at }
-    {
-        present_of(self.chosen(a))
-    }
-
-    fn no_execute(&self, a: ProgramAddress) -> bool
-        ensures { result ≡ no_execute self.now.segments a.at }
-    {
-        no_execute_of(self.chosen(a))
+        Segment {
+            word: self.segments[(a.at / 0x1_0000 % 16) as usize],
+        }
     }
 
     /// What the first check that fails says of an access, relocation on.
     pub fn verdict(&self, access: Access, a: ProgramAddress) -> Result<Grant, Violation>
         ensures { result ≡ verdict access self.now.segments a.at }
     {
-        if !self.within(a) {
+        let segment = self.chosen(a);
+        if block_of(a) > segment.limit() {
             return Err(Violation::Limit);
         }
-        if !self.present(a) {
+        if !segment.present() {
             return Err(Violation::Absent);
         }
         match access {
-            Access::Fetch if self.no_execute(a) => Err(Violation::NoExecute),
+            Access::Fetch if segment.no_execute() => Err(Violation::NoExecute),
             Access::Fetch | Access::Read => Ok(Grant::Plain),
-            Access::Write => on_write(self.chosen(a)),
+            Access::Write => segment.on_write(),
         }
     }
 
@@ -210,7 +208,7 @@ impl Controller {
         ensures { result.at ≡ real self.now.segments a.at }
     {
         RealAddress {
-            at: (relocation_of(self.chosen(a)) + block_of(a)) % 4096 * 256 + a.at % 256,
+            at: (self.chosen(a).relocation() + block_of(a)) % 4096 * 256 + a.at % 256,
         }
     }
 
@@ -218,10 +216,10 @@ impl Controller {
     pub fn half(&self, r: RealAddress) -> u16
         ensures { result ≡ controller_half self.now.segments self.now.faults r.at }
     {
-        if is_segment(r) {
-            half_of(r, self.segments[(r.at / 4 % 16) as usize])
-        } else if is_faults(r) {
-            half_of(r, self.faults)
+        if r.is_segment() {
+            r.half_of(self.segments[(r.at / 4 % 16) as usize])
+        } else if r.is_faults() {
+            r.half_of(self.faults)
         } else {
             0
         }
@@ -234,7 +232,7 @@ impl Controller {
         ensures faults { self.new.faults ≡ faults_after_read self.old.faults r.at }
     {
         let half = self.half(r);
-        if clears_faults(r) {
+        if r.clears_faults() {
             self.faults = 0;
         }
         half
@@ -245,9 +243,9 @@ impl Controller {
         ensures segments { self.new.segments ≡ segments_after self.old.segments r.at half }
         ensures faults { self.new.faults ≡ self.old.faults }
     {
-        if is_segment(r) {
+        if r.is_segment() {
             let n = (r.at / 4 % 16) as usize;
-            self.segments[n] = used_bits(with_half(r, half, self.segments[n]));
+            self.segments[n] = used_bits(r.with_half(half, self.segments[n]));
         }
     }
 }

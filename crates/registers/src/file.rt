@@ -9,11 +9,11 @@ pub enum RegisterSet {
     Second,
 }
 
-/// Which set has a number: set 0 is the first, any other the second.
-impl From<u8> for RegisterSet {
-    ghost from_gives = { λ number set. set_number set ≡ file_of number };
-
-    fn from(number: u8) -> RegisterSet {
+impl RegisterSet {
+    /// The set of a number: the first of 0, the second of any other.
+    pub fn numbered(number: u8) -> RegisterSet
+        ensures { set_number result ≡ file_of number }
+    {
         if number == 0 {
             RegisterSet::First
         } else {

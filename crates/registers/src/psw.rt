@@ -136,7 +136,7 @@ impl ProgramAddress {
         ensures { result.at ≡ address (self.at + bytes) }
     {
         ProgramAddress {
-            at: (self.at + bytes as u32) % 0x10_0000,
+            at: (self.at + u32::from(bytes)) % 0x10_0000,
         }
     }
 
@@ -183,7 +183,7 @@ impl ProgramAddress {
         ensures { result.at ≡ address (self.at + (2 ^ 20 - bytes)) }
     {
         ProgramAddress {
-            at: (self.at + (0x10_0000 - bytes as u32)) % 0x10_0000,
+            at: (self.at + (0x10_0000 - u32::from(bytes))) % 0x10_0000,
         }
     }
 
