@@ -1,4 +1,4 @@
-ghost use Rattle.std.specs.Prelude.{◌≡◌};
+ghost use Rattle.std.specs.Prelude.{◌≡◌, ◌-◌, cond, Some, None};
 ghost use Rattle.stores.specs.Layers.{in_strip, stripped, under_after};
 ghost use Rattle.model.specs.Stores.{stored};
 
@@ -35,10 +35,15 @@ impl<S> LoaderStrip<S> {
 }
 
 impl<S: Store> LoaderStrip<S> {
-    fn covers(&self, place: usize) -> bool
-        ensures { result ≡ in_strip (S.Store.meaning self.now.below).fitted place }
+    /// Which halfword of the strip a place shows, if the strip covers it.
+    fn slot(&self, place: usize) -> Option<usize>
+        ensures { result ≡ cond (in_strip (S.Store.meaning self.now.below).fitted place) (Some (place - 40)) None }
     {
-        place < self.below.fitted() && (START..END).contains(&place)
+        if place < self.below.fitted() && (START..END).contains(&place) {
+            Some(place - START)
+        } else {
+            None
+        }
     }
 }
 
@@ -52,18 +57,16 @@ impl<S: Store> Store for LoaderStrip<S> {
     }
 
     fn kind(&self, place: usize) -> Kind {
-        if self.covers(place) {
-            Kind::Fixed
-        } else {
-            self.below.kind(place)
+        match self.slot(place) {
+            Some(_) => Kind::Fixed,
+            None => self.below.kind(place),
         }
     }
 
     fn read(&self, place: usize) -> u16 {
-        if self.covers(place) {
-            self.strip[place - START]
-        } else {
-            self.below.read(place)
+        match self.slot(place) {
+            Some(slot) => self.strip[slot],
+            None => self.below.read(place),
         }
     }
 
@@ -74,7 +77,7 @@ impl<S: Store> Store for LoaderStrip<S> {
         ensures under { S.Store.meaning self.new.below ≡ under_after (S.Store.meaning self.old.below) place word }
         ensures holds { self.new.strip ≡ self.old.strip }
     {
-        if !self.covers(place) {
+        if self.slot(place).is_none() {
             self.below.write(place, word);
         }
     }
