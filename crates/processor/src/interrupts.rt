@@ -1,8 +1,9 @@
-ghost use Rattle.std.specs.Prelude.{◌≡◌, ◌^◌, ◌<◌};
+ghost use Rattle.std.specs.Prelude.{◌≡◌, ◌+◌, ◌^◌, ◌<◌};
 ghost use Rattle.model.specs.Buses.{lowest};
 ghost use Rattle.model.specs.Stores.{half_at, full_at};
-ghost use Rattle.model.specs.Steps.{took, recorded, interrupted, supervised, requested};
-ghost use Rattle.processor.specs.View.{state_of, Leads};
+ghost use Rattle.model.specs.States.{with_registers};
+ghost use Rattle.model.specs.Steps.{into_zero, took, recorded, interrupted, supervised, requested};
+ghost use Rattle.processor.specs.View.{state_of, Leads, Becomes};
 
 use crate::cpu::Core;
 use bus::meaning::Bus;
@@ -42,6 +43,18 @@ impl<S: Store, B: Bus> Core<S, B> {
         }
     }
 
+    /// Saves the status and an address in two registers of the first set.
+    fn save(&mut self, first: u8, own: ProgramAddress)
+        requires { first < 255 }
+        ensures saved { Becomes S.Store.meaning B.Bus.devices (with_registers (into_zero (first + 1) own.at (into_zero first self.old.psw.status self.old.registers.words))) self.old self.new }
+        ensures quiet { self.new.bus ≡ self.old.bus }
+    {
+        self.registers
+            .put(RegisterSet::First, first, self.psw.status());
+        self.registers
+            .put(RegisterSet::First, first + 1, u32::from(own));
+    }
+
     // Cause and vector apart: any cause through any PSW is promised, and a type of the three pairs would ask more of callers.
     /// Saves the status and an address, and loads the PSW at a real address.
     pub fn interrupt(&mut self, cause: Cause, vector: u16, own: ProgramAddress) -> Record
@@ -49,9 +62,7 @@ impl<S: Store, B: Bus> Core<S, B> {
         ensures { Leads S.Store.meaning B.Bus.devices (interrupted cause vector own.at) self.old (took result) self.new }
     {
         let record = self.record(cause, own);
-        self.registers
-            .put(RegisterSet::First, 14, self.psw.status());
-        self.registers.put(RegisterSet::First, 15, u32::from(own));
+        self.save(14, own);
         self.psw = Psw::new(self.full_at(vector), self.full_at(vector + 4));
         record
     }
@@ -63,9 +74,7 @@ impl<S: Store, B: Bus> Core<S, B> {
         let next = self.psw.location();
         let record = self.record(Cause::SupervisorCall, next);
         self.registers.put(RegisterSet::First, 13, address);
-        self.registers
-            .put(RegisterSet::First, 14, self.psw.status());
-        self.registers.put(RegisterSet::First, 15, u32::from(next));
+        self.save(14, next);
         self.psw = Psw::new(
             self.full_at(0x98),
             u32::from(self.half_at(0x9c + 2 * u16::from(number))),
@@ -80,8 +89,7 @@ impl<S: Store, B: Bus> Core<S, B> {
         let own = self.psw.location();
         let record = self.record(Cause::DeviceRequest, own);
         let entry = self.half_at(0xd0 + 2 * u16::from(device));
-        self.registers.put(RegisterSet::First, 0, self.psw.status());
-        self.registers.put(RegisterSet::First, 1, u32::from(own));
+        self.save(0, own);
         self.registers.put(RegisterSet::First, 2, u32::from(device));
         self.registers
             .put(RegisterSet::First, 3, u32::from(self.bus.status(device)));
