@@ -30,7 +30,7 @@ pub fn lbr<S: Store, B: Bus>(m: &mut Core<S, B>, r1: u8, r2: u8)
     ensures { SetsQuietly S.Store.meaning B.Bus.devices (lbr_tree r1 r2) m.old m.new }
 {
     let value = m.reg(r2);
-    m.set_reg(r1, low_byte(value) as u32);
+    m.set_reg(r1, u32::from(low_byte(value)));
 }
 
 /// Moves the low byte of the first register to the second, which keeps its others.

@@ -36,7 +36,7 @@ pub fn lhl<S: Store, B: Bus>(m: &mut Core<S, B>, o: Addressed) -> Result<(), Tra
     ensures { Does S.Store.meaning B.Bus.devices (lhl_tree o.r1 o.a.at o.next.at) m.old result m.new }
 {
     let half = m.load(o.a.to_half())?;
-    result(m, o.r1, half as u32);
+    result(m, o.r1, u32::from(half));
     m.jump(o.next);
     Ok(())
 }
@@ -46,7 +46,7 @@ pub fn lb<S: Store, B: Bus>(m: &mut Core<S, B>, o: Addressed) -> Result<(), Trap
     ensures { Does S.Store.meaning B.Bus.devices (lb_tree o.r1 o.a.at o.next.at) m.old result m.new }
 {
     let byte = load_byte(m, o.a)?;
-    m.set_reg(o.r1, byte as u32);
+    m.set_reg(o.r1, u32::from(byte));
     m.jump(o.next);
     Ok(())
 }
@@ -67,7 +67,7 @@ pub fn clb<S: Store, B: Bus>(m: &mut Core<S, B>, o: Addressed) -> Result<(), Tra
 {
     let value = m.reg(o.r1);
     let byte = load_byte(m, o.a)?;
-    m.set_code(compare_logical_code(low_byte(value) as u32, byte as u32).bits());
+    m.set_code(compare_logical_code(u32::from(low_byte(value)), u32::from(byte)).bits());
     m.jump(o.next);
     Ok(())
 }
