@@ -51,63 +51,56 @@ pub struct Command<'t> {
 pub fn read_command(letter: u8, address: u32, bytes: &[u8]) -> Result<Command<'_>, Denial>
     ensures { address ≤ 2 ^ 24 → MatchResult result (λ c. Whole letter address bytes.now (order_of c.order) c.next c.rest.now × NextTo c.order c.next) (λ d. Broken letter address bytes.now (number d)) }
 {
-    match letter as char {
+    let (order, next, rest) = match char::from(letter) {
         'A' => {
             let operand = take_operand::<3>(bytes)?;
-            Ok(Command {
-                order: Order::Point,
-                next: operand.value,
-                rest: operand.rest,
-            })
+            (Order::Point, operand.value, operand.rest)
         }
         'D' => {
             let operand = take_operand::<2>(bytes)?;
-            Ok(Command {
-                order: Order::Deposit(address, operand.value as u16),
-                next: address.saturating_add(2),
-                rest: operand.rest,
-            })
+            (
+                Order::Deposit(address, operand.value as u16),
+                address.saturating_add(2),
+                operand.rest,
+            )
         }
         'R' => {
             let (number, operand) = take_numbered(bytes)?;
-            Ok(Command {
-                order: Order::Set(Item::General(number / 16, number % 16), operand.value),
-                next: address,
-                rest: operand.rest,
-            })
+            (
+                Order::Set(Item::General(number / 16, number % 16), operand.value),
+                address,
+                operand.rest,
+            )
         }
         'S' => {
             let (number, operand) = take_numbered(bytes)?;
-            Ok(Command {
-                order: Order::Set(Item::Segment(number), operand.value),
-                next: address,
-                rest: operand.rest,
-            })
+            (
+                Order::Set(Item::Segment(number), operand.value),
+                address,
+                operand.rest,
+            )
         }
         'P' => {
             let operand = take_operand::<4>(bytes)?;
-            Ok(Command {
-                order: Order::Set(Item::Status, operand.value),
-                next: address,
-                rest: operand.rest,
-            })
+            (
+                Order::Set(Item::Status, operand.value),
+                address,
+                operand.rest,
+            )
         }
         'L' => {
             let operand = take_operand::<3>(bytes)?;
-            Ok(Command {
-                order: Order::Set(Item::Location, operand.value),
-                next: address,
-                rest: operand.rest,
-            })
+            (
+                Order::Set(Item::Location, operand.value),
+                address,
+                operand.rest,
+            )
         }
         'G' => {
             let operand = take_operand::<3>(bytes)?;
-            Ok(Command {
-                order: Order::Go(operand.value),
-                next: address,
-                rest: operand.rest,
-            })
+            (Order::Go(operand.value), address, operand.rest)
         }
-        _ => Err(Denial::UnknownLetter),
-    }
+        _ => return Err(Denial::UnknownLetter),
+    };
+    Ok(Command { order, next, rest })
 }
