@@ -1,5 +1,5 @@
 -- Steps that nothing stops, one more at their end.
-use Rattle.std.proofs.Common.{◌≡◌, ℕ, zero, suc, ◌+◌, ◌<◌, Bool, true, false, List, length, Some, None, sym, refl, subst, add-zero, add-suc, add-one, arith, rules}
+use Rattle.std.proofs.Common.{◌≡◌, ℕ, zero, suc, ◌+◌, ◌-◌, ◌<◌, ◌≤◌, Bool, true, false, List, length, Some, None, sym, refl, subst, add-zero, add-suc, add-one, arith, rules}
 use Rattle.std.specs.Prelude.{nat_le}
 use Rattle.model.specs.declared.Record.{Record}
 use Rattle.model.specs.declared.StepAnswer.{StepAnswer}
@@ -18,8 +18,13 @@ module _ (meaning : ℕ → Prog) where
   unfolding Steps
   next cap n s u t q r p before one = (u, r, before, one)
 
-  pub one_more : (cap n : ℕ) (s u t : State) (q r p : List Record) → Steps meaning cap n s q u r → Onward meaning cap u r t p → Steps meaning cap (n + 1) s q t p
-  one_more cap n s u t q r p before one = subst (λ (k : ℕ). Steps meaning cap k s q t p) (sym (add-one n)) (next cap n s u t q r p before one)
+  -- The k-th step, after k - 1.
+  pub one_more : (cap k : ℕ) (s u t : State) (q r p : List Record) → 1 ≤ k → Steps meaning cap (k - 1) s q u r → Onward meaning cap u r t p → Steps meaning cap (k + 1 - 1) s q t p
+  one_more cap zero s u t q r p some before one = absurd (omega arith)
+  one_more cap (suc n) s u t q r p some before one =
+      let made : suc n - 1 ≡ n = omega arith in
+      let now : suc n ≡ suc n + 1 - 1 = omega arith in
+      subst (λ (k : ℕ). Steps meaning cap k s q t p) now (next cap n s u t q r p (subst (λ (k : ℕ). Steps meaning cap k s q u r) made before) one)
 
   counted : (a : StepAnswer) (full : Bool) (n : ℕ) → stops_by a full false ≡ None → stops_by a full (nat_le n n) ≡ Some Counted
   counted Done true n e = absurd (cc)

@@ -27,9 +27,8 @@ pub fn run<S: Store, B: Bus>(
     ensures does { Runs S.Store.meaning B.Bus.devices count result.steps result.reason m.old trace.old m.new trace.new }
     ensures same { SameSlots trace.old trace.new }
 {
-    for made in 0..count {
+    for steps in 1..=count {
         let answer = step(m, trace);
-        let steps = made + 1;
         if answer == StepAnswer::Waiting {
             return RunAnswer {
                 steps,

@@ -13,8 +13,7 @@ use queue::Queue;
 use registers::words::ProgramAddress;
 use store::meaning::Store;
 
-// Room is asked for, and the slots kept, by name in each contract: the trace is lent anew with each call (a rule of the project), and
-// a type that held the `&mut` would make each promise one about its last value.
+// HasRoom and SameSlots stand in each contract: the trace is passed to each call (a rule of the project), so no type can hold it and promise them once.
 /// Adds the record of an interrupt to the trace.
 fn note(trace: &mut Queue<'_, Record>, entry: Record) -> StepAnswer
     requires room { HasRoom trace.old }
@@ -80,10 +79,10 @@ pub fn step<S: Store, B: Bus>(m: &mut Core<S, B>, trace: &mut Queue<'_, Record>)
     ensures does { Steps S.Store.meaning B.Bus.devices m.old trace.old result m.new trace.new }
     ensures same { SameSlots trace.old trace.new }
 {
-    if m.psw().polls() {
-        if let Some(device) = m.requesting() {
-            return note(trace, m.attend(device));
-        }
+    if m.psw().polls()
+        && let Some(device) = m.requesting()
+    {
+        return note(trace, m.attend(device));
     }
     proceed(m, trace)
 }

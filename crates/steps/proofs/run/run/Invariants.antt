@@ -1,3 +1,4 @@
+use Rattle.std.proofs.Common.{◌-◌}
 use Rattle.queue.specs.Rows.{queued, capacity, HasRoom, SameSlots}
 use Rattle.model.specs.Runs.{Steps}
 use Rattle.processor.specs.View.{state_of}
@@ -5,11 +6,11 @@ use Rattle.instructions.specs.Instructions.{instruction}
 use Rattle.steps.proofs.run.run.Given as goal
 
 -- the steps made so far, none of which stopped the run
-abbrev pub invariant-loop-made : goal.invariant-loop-made
-invariant-loop-made g l =
+abbrev pub invariant-loop-steps : goal.invariant-loop-steps
+invariant-loop-steps g l =
     record {
       onward :
-          Steps instruction (capacity l.initial.trace) l.made
+          Steps instruction (capacity l.initial.trace) (l.steps - 1)
           (state_of g.S.Store.meaning g.B.Bus.devices l.initial.m) (queued l.initial.trace)
           (state_of g.S.Store.meaning g.B.Bus.devices l.m) (queued l.trace);
       room : HasRoom l.trace;
