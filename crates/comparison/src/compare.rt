@@ -19,6 +19,7 @@ pub struct Comparison {
     pub other: Answered,
 }
 
+// The slots beside each side: the borrow checker covers no call that passes on a struct with a `&mut [T]` that the caller gets back.
 /// Makes a machine and performs its history and then its list.
 fn go_through<S: Store + Drop, B: Bus + Drop>(
     heap: Global,

@@ -12,6 +12,7 @@ use queue::Queue;
 use std::alloc::{AllocError, Global};
 use store::meaning::Store;
 
+// Arm by arm, not through a Call: the proof of one arm for all but the step did not close.
 /// Makes a call that is asked; tells the answer of an accepted step.
 fn follow_one<S: Store, B: Bus>(
     machine: &mut Machine<S, B>,

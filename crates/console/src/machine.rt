@@ -39,7 +39,7 @@ impl<S: Store, B: Bus> Machine<S, B> {
         }
     }
 
-    // A number: any may be given, and what is no position is denied.
+    // u8, not Position: any number may be given, and one that is no position is denied.
     /// Turns the key: 0 OFF, 1 ON, 2 LOCK.
     pub fn turn_key(&mut self, position: u8) -> Result<(), Denial>
         ensures { Says S.Store.meaning B.Bus.devices (turn_key position) self.old (done_by result) self.new }
@@ -132,6 +132,7 @@ impl<S: Store, B: Bus> Machine<S, B> {
         self.core.faults()
     }
 
+    // u8, not Position: the number is what was promised, and callers print it.
     /// The position of the key: a question that changes nothing.
     pub fn key_position(&self) -> u8
         ensures { result ≡ number_of self.now.key.position }

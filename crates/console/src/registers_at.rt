@@ -1,5 +1,4 @@
 ghost use Rattle.std.specs.Prelude.{◌≡◌, IfOk, OnOk, OnErr};
-ghost use Rattle.model.specs.Status.{no_set};
 ghost use Rattle.model.specs.Console.{or_else, item_denial, value_denial, item_of, with_item};
 ghost use Rattle.processor.specs.View.{state_of};
 ghost use Rattle.console.specs.View.{refusal};
@@ -12,22 +11,15 @@ use registers::controller::used_bits;
 use registers::words::ProgramAddress;
 use store::meaning::Store;
 
-// `set: u8`: a call may give any number, and this tells which are denied.
-/// Whether there is no register set of a number.
-#[tactic(auto, unfolding(model::specs::Status::no_set))]
-fn no_set(set: u8) -> bool
-    ensures { result ≡ no_set set }
-{
-    set != 0 && set != 15
-}
-
 /// Denies a register that is not there.
+#[tactic(auto, unfolding(model::specs::Status::no_set))]
 fn check_item(item: Item) -> Result<(), Denial>
     ensures { refusal result ≡ item_denial item }
 {
     match item {
-        Item::General(set, _) if no_set(set) => Err(Denial::NoRegister),
-        Item::General(_, 16..) | Item::Segment(16..) => Err(Denial::NoRegister),
+        Item::General(1..=14 | 16.., _) | Item::General(_, 16..) | Item::Segment(16..) => {
+            Err(Denial::NoRegister)
+        }
         _ => Ok(()),
     }
 }

@@ -17,10 +17,10 @@ use store::meaning::Store;
 fn check_count(count: u32) -> Result<(), Denial>
     ensures { refusal result ≡ count_denial instruction count }
 {
-    if count == 0 || count > 1_000_000 {
-        Err(Denial::OutOfRange)
-    } else {
+    if (1..=1_000_000).contains(&count) {
         Ok(())
+    } else {
+        Err(Denial::OutOfRange)
     }
 }
 

@@ -56,7 +56,7 @@ fn obey_next<'t, S: Store, B: Bus>(
     Ok(command)
 }
 
-// A slice pattern takes each letter (a rule of the project); a command takes as many bytes as its operand has, and `obeyed` is the answer.
+// while let and a count, no iterator: a slice pattern takes the letter (a rule of the project), and a command takes as many bytes as its operand has.
 /// Obeys the commands of a tape, up to the first that is denied.
 fn obey_all<S: Store, B: Bus>(
     core: &mut Core<S, B>,

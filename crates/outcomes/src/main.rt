@@ -10,8 +10,7 @@ use outcome::line::add_line;
 use outcome::played::play_new;
 use queue::Queue;
 use std::alloc::AllocError;
-use std::io;
-use std::io::{Read, Write};
+use std::io::{self, Read, Write};
 
 /// The tape at the front of the input, and what comes after it; none if the input is at its end, or cut short.
 fn next_tape(input: &[u8]) -> Option<(&[u8], &[u8])>

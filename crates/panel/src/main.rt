@@ -6,8 +6,7 @@ use model::{BLANK, Record};
 use outcome::played::play_new;
 use outcome::shown::Shown;
 use queue::Queue;
-use std::io;
-use std::io::Read;
+use std::io::{self, Read};
 use tape::orders::TapeFault;
 
 /// Prints a tape's fault: its place, the letter there and the denial.

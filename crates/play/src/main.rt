@@ -3,8 +3,7 @@
 
 use model::BLANK;
 use session::session::play_to_line;
-use std::io;
-use std::io::{Read, Write};
+use std::io::{self, Read, Write};
 
 fn main(rt: HostRuntime) -> io::Result<()> {
     let heap = rt.alloc();
