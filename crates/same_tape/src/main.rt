@@ -6,8 +6,7 @@ use bus::silent::SilentBus;
 use console::machine::Machine;
 use model::{BLANK, Item};
 use queue::Queue;
-use std::io;
-use std::io::Read;
+use std::io::{self, Read};
 use store::boards::CoreBoards;
 use store::meaning::Store;
 use stores::image::ByteImage;
@@ -16,12 +15,10 @@ use stores::strip::LoaderStrip;
 
 /// A digest of the words that the console reads back.
 fn digest<S: Store, B: Bus>(machine: &mut Machine<S, B>) -> u32 {
-    let mut sum = 0u32;
-    for place in 0..8_192u32 {
-        let word = machine.examine(2 * place).unwrap_or(0xffff);
-        sum = sum.wrapping_mul(31).wrapping_add(u32::from(word));
-    }
-    sum
+    (0..0x4000u32).step_by(2).fold(0u32, |sum, place| {
+        let word = machine.examine(place).unwrap_or(0xffff);
+        sum.wrapping_mul(31).wrapping_add(u32::from(word))
+    })
 }
 
 /// Plays a tape over a store, and prints what came of it.
