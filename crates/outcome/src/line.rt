@@ -45,8 +45,7 @@ fn add_record(text: &mut Vec<u8>, item: Record) -> Result<(), AllocError>
     add_hex(text, 1, u64::from(u8::from(item.cause)))?;
     add_hex(text, 8, u64::from(item.status))?;
     add_hex(text, 5, u64::from(item.location))?;
-    add_hex(text, 2, u64::from(item.faults))?;
-    Ok(())
+    add_hex(text, 2, u64::from(item.faults))
 }
 
 /// Adds the number of records in 2 digits, then each record, the oldest first.
@@ -86,8 +85,7 @@ fn add_shown(text: &mut Vec<u8>, shown: &Shown) -> Result<(), AllocError>
     add_set(text, &shown.lower)?;
     add_set(text, &shown.upper)?;
     add_set(text, &shown.segments)?;
-    add_field(text, 2, u64::from(shown.interrupt_status))?;
-    Ok(())
+    add_field(text, 2, u64::from(shown.interrupt_status))
 }
 
 /// Adds the line of an outcome: how the tape ended, the fields of the processor, the trace, the digest of the store and a
