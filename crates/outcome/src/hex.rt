@@ -1,4 +1,5 @@
 ghost use Rattle.std.specs.Prelude.{◌≡◌, ◌/◌, ◌%◌, ◌^◌};
+ghost use Rattle.session.specs.Lines.{hex_digit};
 ghost use Rattle.outcome.specs.Texts.{Adds, hex};
 
 use session::line::hex_digit;
@@ -16,6 +17,14 @@ fn without_last(value: u64, places: u32) -> u64
     }
 }
 
+/// The character of the hexadecimal digit at a place of a number, counted from its last; 0 in front of the number.
+fn digit_at(value: u64, place: u32) -> u8
+    ensures { result ≡ hex_digit (value / 16 ^ place % 16) }
+{
+    let digit = (without_last(value, place) % 16) as u8;
+    hex_digit(digit)
+}
+
 /// Adds the last digits of a number, so many of them, in hexadecimal.
 // Not by `{:0places$X}`, which writes all digits of a longer number.
 #[tactic(auto, unfolding(crate::specs::Texts::hex))]
@@ -23,8 +32,7 @@ pub fn add_hex(text: &mut Vec<u8>, places: u32, value: u64) -> Result<(), AllocE
     ensures { Adds result text.old.items text.new.items (hex places value) }
 {
     for place in (0..places).rev() {
-        let digit = without_last(value, place) % 16;
-        text.push(hex_digit(digit as u8))?;
+        text.push(digit_at(value, place))?;
     }
     Ok(())
 }
