@@ -34,7 +34,8 @@ impl Drive {
     fn offer(&self) -> u8
         ensures { result ≡ self.now.position / 256 }
     {
-        (self.position / 256) as u8
+        let [high, _] = self.position.to_be_bytes();
+        high
     }
 
     fn read(&mut self)

@@ -21,7 +21,8 @@ pub fn form_of(operation: Operation) -> Form
 pub fn code_field(first: u16) -> u8
     ensures { result ≡ code_field first }
 {
-    (first / 256) as u8
+    let [code, _] = first.to_be_bytes();
+    code
 }
 
 /// The field R1 of a first halfword.
@@ -130,15 +131,16 @@ pub fn address_of(own: u32, second: u16, third: u16, index: u32, second_index: u
     ensures small { result < 2 ^ 20 }
 {
     if second < 0x4000 {
-        (second as u32 + index % 0x10_0000) % 0x10_0000
+        (u32::from(second) + index % 0x10_0000) % 0x10_0000
     } else if second < 0x8000 {
-        (second as u32 % 256 * 0x1_0000
-            + third as u32
+        (u32::from(second) % 256 * 0x1_0000
+            + u32::from(third)
             + index % 0x10_0000
             + second_index % 0x10_0000)
             % 0x10_0000
     } else {
-        (signed_15(second as u32 % 0x8000) + (own % 0x10_0000 + 4) + index % 0x10_0000) % 0x10_0000
+        (signed_15(u32::from(second) % 0x8000) + (own % 0x10_0000 + 4) + index % 0x10_0000)
+            % 0x10_0000
     }
 }
 

@@ -1,5 +1,5 @@
 /// What is done with a register and an operand, at every form that has it.
-#[derive(Clone, Copy, PartialEq, Eq)]
+#[derive(Clone, Copy, Debug, PartialEq, Eq)]
 pub enum Function {
     And,
     CompareLogical,
@@ -13,7 +13,7 @@ pub enum Function {
 }
 
 /// The operations between two registers (RR), by their mnemonics.
-#[derive(Clone, Copy, PartialEq, Eq)]
+#[derive(Clone, Copy, Debug, PartialEq, Eq)]
 pub enum RegisterOp {
     Balr,
     Btcr,
@@ -34,7 +34,7 @@ pub enum RegisterOp {
 }
 
 /// The operations with a number of four bits (SF), by their mnemonics.
-#[derive(Clone, Copy, PartialEq, Eq)]
+#[derive(Clone, Copy, Debug, PartialEq, Eq)]
 pub enum ShortOp {
     Srls,
     Slls,
@@ -49,7 +49,7 @@ pub enum ShortOp {
 }
 
 /// The operations with an address (RX), by their mnemonics.
-#[derive(Clone, Copy, PartialEq, Eq)]
+#[derive(Clone, Copy, Debug, PartialEq, Eq)]
 pub enum MemoryOp {
     Sth,
     Bal,
@@ -85,7 +85,7 @@ pub enum MemoryOp {
 }
 
 /// The operations with an operand of one halfword (RI1), by their mnemonics.
-#[derive(Clone, Copy, PartialEq, Eq)]
+#[derive(Clone, Copy, Debug, PartialEq, Eq)]
 pub enum ImmediateOp {
     WithImmediate(Function),
     Rrl,
@@ -97,7 +97,7 @@ pub enum ImmediateOp {
 }
 
 /// What an operation code stands for.
-#[derive(Clone, Copy, PartialEq, Eq)]
+#[derive(Clone, Copy, Debug, PartialEq, Eq)]
 pub enum Operation {
     /// RR.
     Register(RegisterOp),
@@ -115,7 +115,7 @@ pub enum Operation {
 }
 
 /// The form of an instruction.
-#[derive(Clone, Copy, PartialEq, Eq)]
+#[derive(Clone, Copy, Debug, PartialEq, Eq)]
 pub enum Form {
     /// One halfword: RR, SF, and what is illegal.
     Single,

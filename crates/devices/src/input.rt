@@ -17,7 +17,7 @@ pub fn rdr<S: Store, B: Bus>(m: &mut Core<S, B>, o: Between) -> Result<(), Trap>
         return Ok(());
     };
     let byte = m.read_from(d)?;
-    m.set_reg(o.r2, byte as u32);
+    m.set_reg(o.r2, u32::from(byte));
     end(m, 0, o.next);
     Ok(())
 }

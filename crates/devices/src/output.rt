@@ -12,7 +12,7 @@ use store::meaning::Store;
 
 // An enum, no closure: each contract names the tree of the output, and one over a closure would have to hold for any function.
 /// What goes out to a device.
-#[derive(Clone, Copy, PartialEq, Eq)]
+#[derive(Clone, Copy, Debug, PartialEq, Eq)]
 pub enum Output {
     Data,
     Command,

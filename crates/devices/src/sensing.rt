@@ -13,10 +13,10 @@ use store::meaning::Store;
 fn status<S: Store, B: Bus>(m: &Core<S, B>, r1: u8) -> Result<u8, Trap>
     ensures { GivesCalmly S.Store.meaning B.Bus.devices (status_tree r1) m.now result m.now }
 {
-    match device(m, r1)? {
-        None => Ok(4),
-        Some(d) => m.sense(d),
-    }
+    let Some(d) = device(m, r1)? else {
+        return Ok(4);
+    };
+    m.sense(d)
 }
 
 /// Puts the status of a device into a register.
@@ -24,8 +24,8 @@ pub fn ssr<S: Store, B: Bus>(m: &mut Core<S, B>, o: Between) -> Result<(), Trap>
     ensures { Does S.Store.meaning B.Bus.devices (ssr_tree o.r1 o.r2 o.next.at) m.old result m.new }
 {
     let byte = status(m, o.r1)?;
-    m.set_reg(o.r2, byte as u32);
-    end(m, byte as u32 % 16, o.next);
+    m.set_reg(o.r2, u32::from(byte));
+    end(m, u32::from(byte) % 16, o.next);
     Ok(())
 }
 
@@ -36,6 +36,6 @@ pub fn ss<S: Store, B: Bus>(m: &mut Core<S, B>, o: Addressed) -> Result<(), Trap
     m.check(Access::Write, o.a)?;
     let byte = status(m, o.r1)?;
     m.store_byte(o.a, byte)?;
-    end(m, byte as u32 % 16, o.next);
+    end(m, u32::from(byte) % 16, o.next);
     Ok(())
 }

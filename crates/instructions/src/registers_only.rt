@@ -121,23 +121,23 @@ pub fn short<S: Store, B: Bus>(
     ensures { Sets S.Store.meaning B.Bus.devices (short_tree operation own.at r1 n) m.old m.new }
 {
     let next = own.plus(2);
-    let distance = 2 * n as u16;
+    let distance = 2 * u16::from(n);
     match operation {
         ShortOp::Srls => {
-            shift(m, Shift::Right, r1, n as u32);
+            shift(m, Shift::Right, r1, u32::from(n));
             m.jump(next);
         }
         ShortOp::Slls => {
-            shift(m, Shift::Left, r1, n as u32);
+            shift(m, Shift::Left, r1, u32::from(n));
             m.jump(next);
         }
         ShortOp::Btbs => branch_true(m, r1, own.minus(distance), next),
         ShortOp::Btfs => branch_true(m, r1, own.plus(distance), next),
         ShortOp::Bfbs => branch_false(m, r1, own.minus(distance), next),
         ShortOp::Bffs => branch_false(m, r1, own.plus(distance), next),
-        ShortOp::Lis => applied(m, Function::Load, r1, n as u32, next),
-        ShortOp::Lcs => applied(m, Function::Load, r1, difference(0, n as u32), next),
-        ShortOp::Ais => applied(m, Function::Add, r1, n as u32, next),
-        ShortOp::Sis => applied(m, Function::Subtract, r1, n as u32, next),
+        ShortOp::Lis => applied(m, Function::Load, r1, u32::from(n), next),
+        ShortOp::Lcs => applied(m, Function::Load, r1, difference(0, u32::from(n)), next),
+        ShortOp::Ais => applied(m, Function::Add, r1, u32::from(n), next),
+        ShortOp::Sis => applied(m, Function::Subtract, r1, u32::from(n), next),
     }
 }

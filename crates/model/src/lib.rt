@@ -8,7 +8,7 @@ mod numbers;
 mod wording;
 
 /// What a place of a store is.
-#[derive(Clone, Copy, PartialEq, Eq)]
+#[derive(Clone, Copy, Debug, PartialEq, Eq)]
 pub enum Kind {
     /// Holds a halfword that a write replaces.
     Writable,
@@ -19,7 +19,7 @@ pub enum Kind {
 }
 
 /// What an access to the store is for.
-#[derive(Clone, Copy, PartialEq, Eq)]
+#[derive(Clone, Copy, Debug, PartialEq, Eq)]
 pub enum Access {
     Fetch,
     Read,
@@ -27,7 +27,7 @@ pub enum Access {
 }
 
 /// How the access controller lets an access through.
-#[derive(Clone, Copy, PartialEq, Eq)]
+#[derive(Clone, Copy, Debug, PartialEq, Eq)]
 pub enum Grant {
     /// With no more.
     Plain,
@@ -36,7 +36,7 @@ pub enum Grant {
 }
 
 /// Why the access controller refuses an access.
-#[derive(Clone, Copy, PartialEq, Eq)]
+#[derive(Clone, Copy, Debug, PartialEq, Eq)]
 pub enum Violation {
     /// The block number is over the segment's limit.
     Limit,
@@ -49,7 +49,7 @@ pub enum Violation {
 }
 
 /// Why an instruction ends otherwise than by going on.
-#[derive(Clone, Copy, PartialEq, Eq)]
+#[derive(Clone, Copy, Debug, PartialEq, Eq)]
 pub enum Trap {
     /// An operation code that is not there, or a privileged one under protection.
     Illegal,
@@ -62,7 +62,7 @@ pub enum Trap {
 }
 
 /// Why an interrupt was taken.
-#[derive(Clone, Copy, PartialEq, Eq)]
+#[derive(Clone, Copy, Debug, PartialEq, Eq)]
 pub enum Cause {
     IllegalInstruction,
     ArithmeticFault,
@@ -72,7 +72,7 @@ pub enum Cause {
 }
 
 /// A record of the trace: the cause of an interrupt, the status and the Location Counter that it saved, and the interrupt status.
-#[derive(Clone, Copy, PartialEq, Eq)]
+#[derive(Clone, Copy, Debug, PartialEq, Eq)]
 pub struct Record {
     pub cause: Cause,
     pub status: u32,
@@ -89,7 +89,7 @@ pub const BLANK: Record = Record {
 };
 
 /// What a step answers.
-#[derive(Clone, Copy, PartialEq, Eq)]
+#[derive(Clone, Copy, Debug, PartialEq, Eq)]
 pub enum StepAnswer {
     Done,
     Waiting,
@@ -97,7 +97,7 @@ pub enum StepAnswer {
 }
 
 /// Why a run stopped.
-#[derive(Clone, Copy, PartialEq, Eq)]
+#[derive(Clone, Copy, Debug, PartialEq, Eq)]
 pub enum Reason {
     Waited,
     Filled,
@@ -105,7 +105,7 @@ pub enum Reason {
 }
 
 /// Why a call was denied.
-#[derive(Clone, Copy, PartialEq, Eq)]
+#[derive(Clone, Copy, Debug, PartialEq, Eq)]
 pub enum Denial {
     /// An address that is odd, over X'FFFFF' or of an unfitted place.
     NoPlace,
@@ -128,7 +128,7 @@ pub enum Denial {
 }
 
 /// A register of the machine that the console sets and shows.
-#[derive(Clone, Copy, PartialEq, Eq)]
+#[derive(Clone, Copy, Debug, PartialEq, Eq)]
 pub enum Item {
     /// A general register: its set and its number.
     General(u8, u8),

@@ -15,7 +15,7 @@ use store::meaning::Store;
 
 // An enum, no closure: each contract names the tree of the way, and one over a closure would have to hold for any function.
 /// Which way registers and fullwords move.
-#[derive(Clone, Copy, PartialEq, Eq)]
+#[derive(Clone, Copy, Debug, PartialEq, Eq)]
 pub enum Way {
     Load,
     Store,

@@ -15,7 +15,7 @@ pub fn branch_true<S: Store, B: Bus>(
 )
     ensures { SetsQuietly S.Store.meaning B.Bus.devices (branch_true mask target.at next.at) m.old m.new }
 {
-    if m.code() & mask as u32 == 0 {
+    if m.code() & u32::from(mask) == 0 {
         m.jump(next)
     } else {
         m.jump(target)

@@ -1,4 +1,4 @@
-ghost use Rattle.std.specs.Prelude.{◌≡◌, false};
+ghost use Rattle.std.specs.Prelude.{◌≡◌, false, replicate};
 ghost use Rattle.model.specs.Effects.{reg, set_reg, get_code, set_code, get_location, jump};
 ghost use Rattle.model.specs.States.{with_pending};
 ghost use Rattle.model.specs.Console.{fresh};
@@ -9,6 +9,9 @@ use registers::controller::Controller;
 use registers::file::Registers;
 use registers::words::{ProgramAddress, Psw};
 use store::meaning::Store;
+
+/// The status of a processor that waits.
+const WAITING: u32 = 0x8000;
 
 /// The processor with its store and its bus. `pending` says that the instruction in progress has made a write that is
 /// reported when it has ended.
@@ -22,16 +25,26 @@ pub struct Core<S, B> {
     pub(crate) bus: B,
 }
 
+/// What a processor has at its start: it waits, and all else is 0.
+#[tactic(auto, unfolding(model::specs::Status::counter))]
+pub(crate) fn at_start() -> (Psw, Registers, Controller)
+    ensures psw { (result.0.status ≡ 0x8000) × (result.0.location ≡ 0) }
+    ensures registers { result.1.words ≡ replicate 32 0 }
+    ensures controller { (result.2.segments ≡ replicate 16 0) × (result.2.faults ≡ 0) }
+{
+    (Psw::new(WAITING, 0), Registers::new(), Controller::new())
+}
+
 impl<S: Store, B: Bus> Core<S, B> {
     /// A processor at its start.
-    #[tactic(auto, unfolding(model::specs::Status::counter))]
     pub fn new(store: S, bus: B) -> Core<S, B>
         ensures { state_of S.Store.meaning B.Bus.devices result ≡ fresh (S.Store.meaning store) (B.Bus.devices bus) }
     {
+        let (psw, registers, controller) = at_start();
         Core {
-            psw: Psw::new(0x8000, 0),
-            registers: Registers::new(),
-            controller: Controller::new(),
+            psw,
+            registers,
+            controller,
             pending: false,
             store,
             bus,

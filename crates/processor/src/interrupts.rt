@@ -13,12 +13,33 @@ use registers::file::RegisterSet;
 use registers::words::{ProgramAddress, Psw};
 use store::meaning::Store;
 
+/// Where the new PSW after an illegal instruction lies in the store.
+pub const ILLEGAL_VECTOR: u16 = 0x30;
+
+/// Where that after an arithmetic fault lies.
+pub const ARITHMETIC_VECTOR: u16 = 0x48;
+
+/// Where that after a refused or reported access lies.
+pub const ACCESS_VECTOR: u16 = 0x90;
+
+/// Where the new status of a supervisor call lies.
+const SUPERVISOR_STATUS: u16 = 0x98;
+
+/// Where the first of the 16 new locations of a supervisor call lies.
+const SUPERVISOR_LOCATIONS: u16 = 0x9c;
+
+/// Where the entry of device 0 lies; the others follow it.
+const DEVICE_ENTRIES: u16 = 0xd0;
+
+/// The status while a device is attended to.
+const ATTENDING: u32 = 0x2800;
+
 impl<S: Store, B: Bus> Core<S, B> {
     /// The halfword of the store at a real address.
     fn half_at(&self, address: u16) -> u16
         ensures { result ≡ half_at (S.Store.meaning self.now.store) address }
     {
-        self.store.read(address as usize / 2)
+        self.store.read(usize::from(address) / 2)
     }
 
     /// The fullword of the store at a real address.
@@ -26,8 +47,8 @@ impl<S: Store, B: Bus> Core<S, B> {
     fn full_at(&self, address: u16) -> u32
         ensures { result ≡ full_at (S.Store.meaning self.now.store) address }
     {
-        let high = self.store.read(address as usize / 2);
-        let low = self.store.read(address as usize / 2 + 1);
+        let high = self.store.read(usize::from(address) / 2);
+        let low = self.store.read(usize::from(address) / 2 + 1);
         joined(high, low)
     }
 
@@ -76,8 +97,8 @@ impl<S: Store, B: Bus> Core<S, B> {
         self.registers.put(RegisterSet::First, 13, address);
         self.save(14, next);
         self.psw = Psw::new(
-            self.full_at(0x98),
-            u32::from(self.half_at(0x9c + 2 * u16::from(number))),
+            self.full_at(SUPERVISOR_STATUS),
+            u32::from(self.half_at(SUPERVISOR_LOCATIONS + 2 * u16::from(number))),
         );
         record
     }
@@ -88,13 +109,13 @@ impl<S: Store, B: Bus> Core<S, B> {
     {
         let own = self.psw.location();
         let record = self.record(Cause::DeviceRequest, own);
-        let entry = self.half_at(0xd0 + 2 * u16::from(device));
+        let entry = self.half_at(DEVICE_ENTRIES + 2 * u16::from(device));
         self.save(0, own);
         self.registers.put(RegisterSet::First, 2, u32::from(device));
         self.registers
             .put(RegisterSet::First, 3, u32::from(self.bus.status(device)));
         self.registers.put(RegisterSet::First, 4, u32::from(entry));
-        self.psw = Psw::new(0x2800, u32::from(entry));
+        self.psw = Psw::new(ATTENDING, u32::from(entry));
         record
     }
 

@@ -5,23 +5,19 @@ ghost use Rattle.model.specs.Status.{file_of, slot, counter};
 ghost use Rattle.model.specs.Console.{fresh};
 ghost use Rattle.processor.specs.View.{state_of, Becomes};
 
-use crate::cpu::Core;
+use crate::cpu::{Core, at_start};
 use bus::meaning::Bus;
 use model::Kind;
-use registers::controller::Controller;
-use registers::file::{RegisterSet, Registers};
-use registers::words::{ProgramAddress, Psw};
+use registers::file::RegisterSet;
+use registers::words::ProgramAddress;
 use store::meaning::Store;
 
 impl<S: Store, B: Bus> Core<S, B> {
     /// Puts the processor at its start again; the store and the bus stay.
-    #[tactic(auto, unfolding(model::specs::Status::counter))]
     pub fn reset(&mut self)
         ensures { state_of S.Store.meaning B.Bus.devices self.new ≡ fresh (S.Store.meaning self.old.store) (B.Bus.devices self.old.bus) }
     {
-        self.psw = Psw::new(0x8000, 0);
-        self.registers = Registers::new();
-        self.controller = Controller::new();
+        (self.psw, self.registers, self.controller) = at_start();
         self.pending = false;
     }
 

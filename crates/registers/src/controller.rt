@@ -3,6 +3,7 @@ ghost use Rattle.std.specs.Int.Bits.{bit_or};
 ghost use Rattle.model.specs.Controller.{limit_of, relocation_of, no_execute_of, write_mode_of, present_of, used, chosen, block, real, on_write, verdict, faults_noted, is_controller, is_segment, segment_at, is_faults, clears_faults, half_of, with_half, controller_half, segments_after, faults_after_read};
 
 use crate::words::{ProgramAddress, RealAddress};
+use fields::parts::{high_half, joined, low_half, with_low_half};
 use model::{Access, Grant, Violation};
 
 /// The access controller: 16 segmentation registers and the interrupt status register.
@@ -104,9 +105,9 @@ impl RealAddress {
         ensures { result ≡ half_of self.at word }
     {
         if self.at / 2 % 2 == 0 {
-            (word / 0x1_0000) as u16
+            high_half(word)
         } else {
-            (word % 0x1_0000) as u16
+            low_half(word)
         }
     }
 
@@ -115,9 +116,9 @@ impl RealAddress {
         ensures { result ≡ with_half self.at half word }
     {
         if self.at / 2 % 2 == 0 {
-            u32::from(half) * 0x1_0000 + word % 0x1_0000
+            joined(half, low_half(word))
         } else {
-            word / 0x1_0000 * 0x1_0000 + u32::from(half)
+            with_low_half(word, half)
         }
     }
 }

@@ -3,7 +3,7 @@ ghost use Rattle.model.specs.Status.{file_of, slot, register_count};
 ghost use Rattle.registers.specs.Sets.{set_number};
 
 /// A set of general registers.
-#[derive(Clone, Copy, PartialEq, Eq)]
+#[derive(Clone, Copy, Debug, PartialEq, Eq)]
 pub enum RegisterSet {
     First,
     Second,

@@ -1,12 +1,12 @@
 ghost use Rattle.std.specs.Prelude.{◌≡◌, ◌%◌, ◌<◌};
 ghost use Rattle.session.specs.Lines.{hex_digit, line_of};
 
-/// The character of a hexadecimal digit, 0 to 9 or A to F.
+/// The character of the last hexadecimal digit of a number, 0 to 9 or A to F.
 #[tactic(auto, unfolding(crate::specs::Lines::hex_digit))]
 pub fn hex_digit(d: u8) -> u8
-    requires { d < 16 }
-    ensures { result ≡ hex_digit d }
+    ensures { result ≡ hex_digit (d % 16) }
 {
+    let d = d % 16;
     if d < 10 { b'0' + d } else { b'A' - 10 + d }
 }
 

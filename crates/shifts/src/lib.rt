@@ -10,7 +10,7 @@ use words::codes::{ConditionCode, coded};
 
 /// A shift or a rotate. Zeros come in at a shift, and copies of the sign at `RightArithmetic`; `LeftArithmetic` shifts
 /// the bits below the sign, and the sign stays.
-#[derive(Clone, Copy, PartialEq, Eq)]
+#[derive(Clone, Copy, Debug, PartialEq, Eq)]
 pub enum Shift {
     Right,
     Left,
@@ -24,7 +24,7 @@ pub enum Shift {
 const SIGN: u32 = 0x8000_0000;
 
 /// What a shift leaves of a fullword, and the condition code that it sets.
-#[derive(Clone, Copy, PartialEq, Eq)]
+#[derive(Clone, Copy, Debug, PartialEq, Eq)]
 pub struct Shifted {
     pub value: u32,
     pub code: ConditionCode,

@@ -10,7 +10,7 @@ use queue::Queue;
 use store::meaning::Store;
 
 /// How a run went: the steps made, a waiting one included, and why it stopped.
-#[derive(Clone, Copy)]
+#[derive(Clone, Copy, Debug, PartialEq, Eq)]
 pub struct RunAnswer {
     pub steps: u32,
     pub reason: Reason,

@@ -9,6 +9,7 @@ use bus::meaning::Bus;
 use instructions::execute::execute;
 use model::{Cause, Record, StepAnswer, Trap};
 use processor::cpu::Core;
+use processor::interrupts::{ACCESS_VECTOR, ARITHMETIC_VECTOR, ILLEGAL_VECTOR};
 use queue::Queue;
 use registers::words::ProgramAddress;
 use store::meaning::Store;
@@ -39,12 +40,18 @@ fn finish<S: Store, B: Bus>(
 {
     let next = m.location();
     match end {
-        Ok(()) if m.reports() => note(trace, m.interrupt(Cause::AccessFault, 0x90, next)),
-        Err(Trap::Illegal) => note(trace, m.interrupt(Cause::IllegalInstruction, 0x30, own)),
+        Ok(()) if m.reports() => note(trace, m.interrupt(Cause::AccessFault, ACCESS_VECTOR, next)),
+        Err(Trap::Illegal) => note(
+            trace,
+            m.interrupt(Cause::IllegalInstruction, ILLEGAL_VECTOR, own),
+        ),
         Err(Trap::Arithmetic) if m.psw().arithmetic_on() => {
-            note(trace, m.interrupt(Cause::ArithmeticFault, 0x48, next))
+            note(
+                trace,
+                m.interrupt(Cause::ArithmeticFault, ARITHMETIC_VECTOR, next),
+            )
         }
-        Err(Trap::Refusal) => note(trace, m.interrupt(Cause::AccessFault, 0x90, own)),
+        Err(Trap::Refusal) => note(trace, m.interrupt(Cause::AccessFault, ACCESS_VECTOR, own)),
         Err(Trap::Supervisor(number, address)) => note(trace, m.supervise(number, address)),
         Ok(()) | Err(Trap::Arithmetic) => StepAnswer::Done,
     }

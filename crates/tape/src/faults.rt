@@ -4,7 +4,7 @@ use crate::orders::TapeFault;
 use model::Denial;
 
 /// A denial at the letter of a command.
-#[derive(Clone, Copy)]
+#[derive(Clone, Copy, Debug, PartialEq, Eq)]
 pub struct Located {
     pub denial: Denial,
     pub place: usize,

@@ -1,7 +1,7 @@
 use model::{Denial, Item};
 
 /// A command of a tape.
-#[derive(Clone, Copy)]
+#[derive(Clone, Copy, Debug, PartialEq, Eq)]
 pub enum Order {
     /// Another address for the deposits to come.
     Point,
@@ -14,7 +14,7 @@ pub enum Order {
 }
 
 /// Why a tape stopped: the denial, the byte place of the letter, and the letter; at OFF place 0 and no letter.
-#[derive(Clone, Copy)]
+#[derive(Clone, Copy, Debug, PartialEq, Eq)]
 pub struct TapeFault {
     pub denial: Denial,
     pub place: usize,

@@ -14,7 +14,7 @@ use words::codes::{POSITIVE, flag};
 
 // An enum, no closure: the contract names the tree of the change, and one over a closure would have to hold for any function.
 /// What an instruction makes of a bit.
-#[derive(Clone, Copy, PartialEq, Eq)]
+#[derive(Clone, Copy, Debug, PartialEq, Eq)]
 pub enum BitChange {
     Set,
     Clear,

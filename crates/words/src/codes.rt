@@ -16,7 +16,7 @@ pub const POSITIVE: u32 = 2;
 pub const NEGATIVE: u32 = 1;
 
 /// A condition code: the sum of its flags C, V, G and L.
-#[derive(Clone, Copy, PartialEq, Eq)]
+#[derive(Clone, Copy, Debug, PartialEq, Eq)]
 pub struct ConditionCode {
     bits: u32,
 }

@@ -10,7 +10,7 @@ ghost use Rattle.words.specs.Products.{pair, product, product_high, product_low,
 fn times(x: i32, y: i32) -> i64
     ensures { result ≡ x *ℤ y }
 {
-    x as i64 * y as i64
+    i64::from(x) * i64::from(y)
 }
 
 /// The 64 bits of the signed product.
@@ -35,7 +35,7 @@ pub fn product(x: u32, y: u32) -> (u32, u32)
 fn joined(hi: u32, lo: u32) -> i64
     ensures { result ≡ pair hi lo }
 {
-    (hi as u64 * 0x1_0000_0000 + lo as u64).cast_signed()
+    (u64::from(hi) * 0x1_0000_0000 + u64::from(lo)).cast_signed()
 }
 
 /// A quotient, if a fullword holds it.
@@ -50,7 +50,7 @@ fn rest(n: i64, d: i32) -> i32
     requires { (of_z w32 d ≢ 0) × (FitsSigned w64 (int_div n d)) }
     ensures { result ≡ int_rem n d }
 {
-    (n % d as i64) as i32
+    (n % i64::from(d)) as i32
 }
 
 /// The quotient of a signed pair by a fullword, toward zero, and the remainder with the dividend's sign. Refused by zero,
@@ -61,6 +61,6 @@ pub fn divided(hi: u32, lo: u32, by: u32) -> Option<(u32, u32)>
 {
     let n = joined(hi, lo);
     let d = by.cast_signed();
-    let quotient = held(n.checked_div(d as i64)?)?;
+    let quotient = held(n.checked_div(i64::from(d))?)?;
     Some((quotient, rest(n, d).cast_unsigned()))
 }

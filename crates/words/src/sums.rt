@@ -62,5 +62,5 @@ pub fn compare_logical_code(x: u32, y: u32) -> ConditionCode
 pub fn extended(h: u16) -> u32
     ensures { result ≡ extended h }
 {
-    (h.cast_signed() as i32).cast_unsigned()
+    i32::from(h.cast_signed()).cast_unsigned()
 }
