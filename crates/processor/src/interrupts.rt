@@ -1,4 +1,4 @@
-ghost use Rattle.std.specs.Prelude.{◌≡◌, ◌+◌, ◌^◌, ◌<◌};
+ghost use Rattle.std.specs.Prelude.{◌≡◌, ◌+◌, ◌<◌};
 ghost use Rattle.model.specs.Buses.{lowest};
 ghost use Rattle.model.specs.Stores.{half_at, full_at};
 ghost use Rattle.model.specs.States.{with_registers};
@@ -23,32 +23,32 @@ pub const ARITHMETIC_VECTOR: u16 = 0x48;
 pub const ACCESS_VECTOR: u16 = 0x90;
 
 /// Where the new status of a supervisor call lies.
-const SUPERVISOR_STATUS: u16 = 0x98;
+const SUPERVISOR_STATUS: usize = 0x98;
 
 /// Where the first of the 16 new locations of a supervisor call lies.
-const SUPERVISOR_LOCATIONS: u16 = 0x9c;
+const SUPERVISOR_LOCATIONS: usize = 0x9c;
 
 /// Where the entry of device 0 lies; the others follow it.
-const DEVICE_ENTRIES: u16 = 0xd0;
+const DEVICE_ENTRIES: usize = 0xd0;
 
 /// The status while a device is attended to.
 const ATTENDING: u32 = 0x2800;
 
 impl<S: Store, B: Bus> Core<S, B> {
     /// The halfword of the store at a real address.
-    fn half_at(&self, address: u16) -> u16
+    fn half_at(&self, address: usize) -> u16
         ensures { result ≡ half_at (S.Store.meaning self.now.store) address }
     {
-        self.store.read(usize::from(address) / 2)
+        self.store.read(address / 2)
     }
 
     /// The fullword of the store at a real address.
     #[tactic(auto, unfolding(model::specs::Stores::full_at, fields::specs::Parts::joined))]
-    fn full_at(&self, address: u16) -> u32
+    fn full_at(&self, address: usize) -> u32
         ensures { result ≡ full_at (S.Store.meaning self.now.store) address }
     {
-        let high = self.store.read(usize::from(address) / 2);
-        let low = self.store.read(usize::from(address) / 2 + 1);
+        let high = self.store.read(address / 2);
+        let low = self.store.read(address / 2 + 1);
         joined(high, low)
     }
 
@@ -79,11 +79,11 @@ impl<S: Store, B: Bus> Core<S, B> {
     // Cause and vector apart: any cause through any PSW is promised, and a type of the three pairs would ask more of callers.
     /// Saves the status and an address, and loads the PSW at a real address.
     pub fn interrupt(&mut self, cause: Cause, vector: u16, own: ProgramAddress) -> Record
-        requires { vector < 2 ^ 15 }
         ensures { Leads S.Store.meaning B.Bus.devices (interrupted cause vector own.at) self.old (took result) self.new }
     {
         let record = self.record(cause, own);
         self.save(14, own);
+        let vector = usize::from(vector);
         self.psw = Psw::new(self.full_at(vector), self.full_at(vector + 4));
         record
     }
@@ -98,7 +98,7 @@ impl<S: Store, B: Bus> Core<S, B> {
         self.save(14, next);
         self.psw = Psw::new(
             self.full_at(SUPERVISOR_STATUS),
-            u32::from(self.half_at(SUPERVISOR_LOCATIONS + 2 * u16::from(number))),
+            u32::from(self.half_at(SUPERVISOR_LOCATIONS + 2 * usize::from(number))),
         );
         record
     }
@@ -109,7 +109,7 @@ impl<S: Store, B: Bus> Core<S, B> {
     {
         let own = self.psw.location();
         let record = self.record(Cause::DeviceRequest, own);
-        let entry = self.half_at(DEVICE_ENTRIES + 2 * u16::from(device));
+        let entry = self.half_at(DEVICE_ENTRIES + 2 * usize::from(device));
         self.save(0, own);
         self.registers.put(RegisterSet::First, 2, u32::from(device));
         self.registers
