@@ -35,7 +35,7 @@ pub trait Bus {
         requires { (1 ≤ start) × Quiet (devices self.now) start }
         ensures { result ≡ lowest (devices self.now) }
     {
-        // Not `find`: the library has a lemma on what it answers for `a..b`, and none for a range that includes its end.
+        // Not `find`, tried: the library has a lemma on what it answers for `a..b`, and the proof for a range with its end did not close.
         for device in start..=255 {
             if self.requests(device) {
                 return Some(device);

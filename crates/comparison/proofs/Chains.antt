@@ -4,6 +4,7 @@ use mathlib.Core.Bool.{false≢true}
 use Rattle.std.proofs.lemmas.List.{take_more, map_push, length_push, get_or_push}
 use Rattle.std.proofs.lemmas.Option.{slice_get_read}
 use Rattle.std.specs.Result.{result_ok}
+use Rattle.std.proofs.lemmas.Option.{same_Some}
 use Rattle.model.specs.declared.Denial.{Denial}
 use Rattle.model.specs.declared.Record.{Record}
 use Rattle.model.specs.declared.StepAnswer.{StepAnswer}
@@ -16,8 +17,8 @@ use Rattle.model.specs.Answers.{Answer, denied, done, shown, stepped, ran, playe
 use Rattle.model.specs.Console.{Desk, made, did_step, unless_denied, denial, Act, call, told, tell, Told}
 use Rattle.instructions.specs.Instructions.{instruction}
 use Rattle.console.specs.View.{stepped_by}
-use Rattle.isolation.specs.Calls.{Reached, new, called, ran as by_run, played as by_tape, Continued, step, Event, unseen, answered, interrupted, seen, Course, quiet, broken, ahead, joined, after, event, course}
-use Rattle.isolation.proofs.Whole.{isolation}
+use Rattle.model.specs.Calls.{Reached, new, called, ran as by_run, played as by_tape, Continued, step, Event, unseen, answered, interrupted, seen, Course, quiet, broken, ahead, joined, after, event, course}
+use Rattle.model.proofs.Whole.{isolation}
 use Rattle.comparison.specs.declared.calls.Call.{Call}
 use Rattle.comparison.specs.declared.calls.Call.TheVariants.{TurnKey, Initialise, Examine, Deposit, Set, Show, Step, Run, Play}
 use Rattle.comparison.specs.declared.calls.Continued.{Continued as Asking}
@@ -115,14 +116,11 @@ asked_more [] (d ∷ l) x c h one = absurd h
 asked_more (y ∷ xs) [] x c h one = absurd h
 asked_more (y ∷ xs) (d ∷ l) x c h one = (h.0, asked_more xs l x c h.1 one)
 
-same : (x y : StepAnswer) → Some x ≡ Some y → x ≡ y
-same x y e = cc
-
 pushed :
     (xs : List Answer) (ys zs : List StepAnswer) (a : Answer) (x y : StepAnswer) →
     xs ≡ map stepped ys → a ≡ stepped y → Some x ≡ Some y → zs ≡ ys ++ x ∷ [] → xs ++ a ∷ [] ≡ map stepped zs
 pushed xs ys zs a x y ex ea er ez =
-    ap (λ (l : List Answer). l ++ a ∷ []) ex ∙ (ap (λ (z : Answer). map stepped ys ++ z ∷ []) (ea ∙ ap stepped (sym (same x y er))) ∙ (sym (map_push stepped ys x) ∙ ap (map stepped) (sym ez)))
+    ap (λ (l : List Answer). l ++ a ∷ []) ex ∙ (ap (λ (z : Answer). map stepped ys ++ z ∷ []) (ea ∙ ap stepped (sym (same_Some x y er))) ∙ (sym (map_push stepped ys x) ∙ ap (map stepped) (sym ez)))
 
 -- An answer that is added is the last.
 ends_push : (ys : List StepAnswer) (x : StepAnswer) → ends_interrupted (ys ++ x ∷ []) ≡ is_interrupt x
@@ -134,7 +132,7 @@ ends_push ys x =
     ap tells_interrupt (slice_get_read zs (length zs) (length zs - 1) x refl within (sym (get_or_push ys x x (length zs - 1) at)))
 
 ends_with : (ys zs : List StepAnswer) (x y : StepAnswer) → zs ≡ ys ++ x ∷ [] → Some x ≡ Some y → ends_interrupted zs ≡ is_interrupt y
-ends_with ys zs x y ez er = ap ends_interrupted ez ∙ (ends_push ys x ∙ ap is_interrupt (same x y er))
+ends_with ys zs x y ez er = ap ends_interrupted ez ∙ (ends_push ys x ∙ ap is_interrupt (same_Some x y er))
 
 -- What is told of a course and of one more call is told of both.
 tells_more :

@@ -10,9 +10,9 @@ use Rattle.model.specs.Console.{Desk, Act, made, call}
 use Rattle.model.specs.Runs.{Runs}
 use Rattle.model.specs.Tapes.{Plays}
 use Rattle.instructions.specs.Instructions.{instruction}
-use Rattle.isolation.specs.Windows.{LookAlike}
-use Rattle.isolation.specs.Calls.{Continued, key, examine, deposit, show, step, Event, unseen, answered, interrupted, Course, quiet, broken, after, event, course}
-use Rattle.isolation.specs.Isolation.{Allowed, Isolated}
+use Rattle.model.specs.Windows.{LookAlike}
+use Rattle.model.specs.Calls.{Continued, key, examine, deposit, show, step, Event, unseen, answered, interrupted, Course, quiet, broken, after, event, course}
+use Rattle.model.specs.Isolation.{Allowed, Isolated}
 use Rattle.comparison.specs.declared.calls.Call.{Call}
 use Rattle.comparison.specs.declared.calls.Call.TheVariants.{TurnKey, Initialise, Examine, Deposit, Set, Show, Step, Run, Play}
 use Rattle.comparison.specs.declared.calls.Continued.{Continued as Asking}

@@ -15,7 +15,7 @@ pub enum Call<'t> {
 }
 
 /// A call that leaves a protected program its own.
-#[derive(Clone, Copy)]
+#[derive(Clone, Copy, Debug, PartialEq, Eq)]
 pub enum Continued {
     TurnKey(u8),
     Examine(u32),

@@ -1,5 +1,5 @@
 ghost use Rattle.std.specs.Prelude.{IfOk};
-ghost use Rattle.isolation.specs.Isolation.{Isolation};
+ghost use Rattle.model.specs.Isolation.{Isolation};
 ghost use Rattle.comparison.specs.Lists.{Gone, Compared};
 
 use crate::follow::follow;

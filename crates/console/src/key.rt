@@ -41,7 +41,8 @@ impl From<Position> for u8 {
     }
 }
 
-/// The key: 0 OFF, 1 ON, 2 LOCK.
+// A record of its own: play copies it out of the machine, and a guard holds it and puts it back.
+/// The key, in its position.
 #[derive(Clone, Copy)]
 pub struct Key {
     position: Position,

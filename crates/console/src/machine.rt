@@ -21,6 +21,7 @@ use steps::step::step;
 use store::meaning::Store;
 use tape::orders::TapeFault;
 
+// No Model: a view would forget the store's and the bus's own values, of which contracts say that a denied call leaves them.
 /// A machine with its key, its processor, its store and its bus. Only the calls below change it.
 #[derive(Drop)]
 pub struct Machine<S, B> {

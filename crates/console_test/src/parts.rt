@@ -14,6 +14,8 @@ pub(crate) const UNUSED: Record = Record {
     faults: 0,
 };
 
+// Numbers, and not the answers themselves, here and below: they are what a caller of the console knows an answer by, and one that
+// changes fails a test.
 /// The number of a denial, and 0 for an answer.
 pub(crate) fn denied<T: Drop>(answer: Result<T, Denial>) -> u8
     ensures { MatchResult answer (λ _. result ≡ 0) (λ denial. result ≡ number denial) }

@@ -19,6 +19,7 @@ use words::sums::{extended, sum};
 fn immediate<S: Store, B: Bus>(m: &mut Core<S, B>, operation: ImmediateOp, r1: u8, y: u32)
     ensures { SetsQuietly S.Store.meaning B.Bus.devices (immediate_tree operation r1 y) m.old m.new }
 {
+    // The operations are the instructions by name, and `decode` uses no crate: so a match, and none of them holds a Shift.
     match operation {
         ImmediateOp::WithImmediate(function) => apply(m, function, r1, y),
         ImmediateOp::Rrl => shift(m, Shift::RotateRight, r1, y),

@@ -85,6 +85,7 @@ pub fn register<S: Store, B: Bus>(
             let y = m.reg(o.r2);
             divide(m, o.r1, y, o.next)?;
         }
+        // These four set registers and no more, as their contracts promise.
         RegisterOp::Exhr => {
             exhr(m, o.r1, o.r2);
             m.jump(o.next);

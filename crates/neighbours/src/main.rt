@@ -14,7 +14,7 @@ use store::boards::CoreBoards;
 use stores::image::ByteImage;
 
 /// An answer in words.
-// Not by Display: the words that a cause prints are longer than those of this program.
+// Not by Display: the words that a cause prints are longer, and what this program prints stays as it was.
 fn word(answer: StepAnswer) -> &'static str {
     match answer {
         StepAnswer::Done => "done",
@@ -107,11 +107,10 @@ fn main(rt: HostRuntime) -> io::Result<()> {
         list: &list2,
     };
     let report = compare(heap, one, &mut slots, other, &mut slots2)?;
-    for answer in &report.one.answers {
-        println!(rt; "core boards: {}", word(*answer))?;
-    }
-    for answer in &report.other.answers {
-        println!(rt; "byte image: {}", word(*answer))?;
+    for (store, side) in [("core boards", &report.one), ("byte image", &report.other)] {
+        for answer in &side.answers {
+            println!(rt; "{store}: {}", word(*answer))?;
+        }
     }
     println!(rt;
         "agreed on {} answers; interrupts {} {}",

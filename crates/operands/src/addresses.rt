@@ -18,6 +18,7 @@ pub fn index<S: Store, B: Bus>(m: &Core<S, B>, number: u8) -> u32
     if number == 0 { 0 } else { m.reg(number) }
 }
 
+// 0 and no Option: the address is a rule over numbers, and the second halfword says whether the third counts.
 /// The third halfword of an instruction, if its second says that there is one, else 0.
 pub fn third<S: Store, B: Bus>(
     m: &mut Core<S, B>,

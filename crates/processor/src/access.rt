@@ -72,13 +72,12 @@ impl<S: Store, B: Bus> Core<S, B> {
     fn write_byte_at(&mut self, r: RealAddress, odd: bool, byte: u8)
         ensures { Leads S.Store.meaning B.Bus.devices (written_at r.at (put_byte odd byte)) self.old (λ s. s) self.new }
     {
-        if self.reaches_controller(r) {
-            let half = with_byte(odd, self.controller.half(r), byte);
-            self.controller.write(r, half);
+        let old = if self.reaches_controller(r) {
+            self.controller.half(r)
         } else {
-            let half = with_byte(odd, self.store.read(r.place()), byte);
-            self.store.write(r.place(), half);
-        }
+            self.store.read(r.place())
+        };
+        self.write_at(r, with_byte(odd, old, byte));
     }
 
     /// Fetches a halfword of an instruction.

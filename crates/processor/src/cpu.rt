@@ -13,6 +13,7 @@ use store::meaning::Store;
 /// The status of a processor that waits.
 const WAITING: u32 = 0x8000;
 
+// No Model: a view would forget the store's and the bus's own values, of which contracts say that a denied call leaves them.
 /// The processor with its store and its bus. `pending` says that the instruction in progress has made a write that is
 /// reported when it has ended.
 #[derive(Drop)]
@@ -72,6 +73,7 @@ impl<S: Store, B: Bus> Core<S, B> {
         self.psw.code()
     }
 
+    // A u32, and no ConditionCode: the status of a device and loaded numbers come here too, and the low four bits count.
     /// Sets the condition code to the low four bits of a number.
     pub fn set_code(&mut self, code: u32)
         ensures { SetsQuietly S.Store.meaning B.Bus.devices (set_code code) self.old self.new }

@@ -172,6 +172,7 @@ impl<'b, 'a, X: Copy> IntoIterator for &'b Queue<'a, X> {
     }
 }
 
+// Not the library's `chain` of two slice iterators: what is still to come is one list, by which proofs of callers count.
 /// The items of a queue that are still to come, the oldest first: those of one part of its slots, then those of another.
 #[derive(Drop)]
 pub struct Iter<'a, X> {

@@ -139,7 +139,7 @@ impl Controller {
     pub fn segment(&self, number: u8) -> u32
         ensures { result ≡ get_or self.now.segments (number % 16) 0 }
     {
-        self.segments[(number % 16) as usize]
+        self.segments[usize::from(number % 16)]
     }
 
     /// Gives a segmentation register another word; numbers wrap at 16.
@@ -147,7 +147,7 @@ impl Controller {
         ensures segments { self.new.segments ≡ replaced self.old.segments (number % 16) word }
         ensures faults { self.new.faults ≡ self.old.faults }
     {
-        self.segments[(number % 16) as usize] = word;
+        self.segments[usize::from(number % 16)] = word;
     }
 
     /// The interrupt status.

@@ -36,7 +36,7 @@ fn slot_of(set: RegisterSet, number: u8) -> usize
         RegisterSet::First => 0,
         RegisterSet::Second => 16,
     };
-    start + (number % 16) as usize
+    start + usize::from(number % 16)
 }
 
 impl Registers {

@@ -5,6 +5,6 @@
 pub mod controller;
 #[tactic(auto, unfolding(model::specs::Status::file_of, model::specs::Status::slot))]
 pub mod file;
-#[tactic(auto, unfolding(model::specs::Status::waits, model::specs::Status::polls, model::specs::Status::arithmetic_on, model::specs::Status::relocated, model::specs::Status::protected, model::specs::Status::recoded, model::specs::Status::selected, model::specs::Status::counter, model::specs::Status::address, model::specs::Status::to_half, model::specs::Status::to_full, model::specs::Status::to_psw, crate::specs::Parity::is_odd))]
+#[tactic(auto, unfolding(model::specs::Status::file_of, model::specs::Status::waits, model::specs::Status::polls, model::specs::Status::arithmetic_on, model::specs::Status::relocated, model::specs::Status::protected, model::specs::Status::recoded, model::specs::Status::selected, model::specs::Status::counter, model::specs::Status::address, model::specs::Status::to_half, model::specs::Status::to_full, model::specs::Status::to_psw, crate::specs::Parity::is_odd))]
 pub mod psw;
 pub mod words;

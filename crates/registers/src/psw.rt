@@ -115,11 +115,7 @@ impl Psw {
     pub fn selected(self) -> RegisterSet
         ensures { set_number result ≡ selected self.status }
     {
-        if self.status / 16 % 16 == 0 {
-            RegisterSet::First
-        } else {
-            RegisterSet::Second
-        }
+        RegisterSet::numbered((self.status / 16 % 16) as u8)
     }
 }
 
@@ -135,9 +131,7 @@ impl ProgramAddress {
     pub fn plus(self, bytes: u16) -> ProgramAddress
         ensures { result.at ≡ address (self.at + bytes) }
     {
-        ProgramAddress {
-            at: (self.at + u32::from(bytes)) % 0x10_0000,
-        }
+        ProgramAddress::new(self.at + u32::from(bytes))
     }
 
     /// Whether it is that of a low byte.
@@ -182,9 +176,7 @@ impl ProgramAddress {
     pub fn minus(self, bytes: u16) -> ProgramAddress
         ensures { result.at ≡ address (self.at + (2 ^ 20 - bytes)) }
     {
-        ProgramAddress {
-            at: (self.at + (0x10_0000 - u32::from(bytes))) % 0x10_0000,
-        }
+        ProgramAddress::new(self.at + (0x10_0000 - u32::from(bytes)))
     }
 
     /// The real address with relocation off: both are equal.

@@ -1,5 +1,5 @@
 ghost use Rattle.std.specs.Prelude.{◌≡◌, min};
-ghost use Rattle.store.specs.Boards.{board_places, core_boards, boards_after};
+ghost use Rattle.store.specs.Boards.{core_boards, boards_after};
 ghost use Rattle.store.specs.Loans.{none, loan};
 ghost use Rattle.model.specs.Stores.{stored};
 
@@ -31,12 +31,6 @@ impl<'a> CoreBoards<'a> {
     {
         self.words
     }
-
-    fn places(&self) -> usize
-        ensures { result ≡ board_places self.now.words.now }
-    {
-        self.words.len().min(LIMIT)
-    }
 }
 
 impl Store for CoreBoards<'_> {
@@ -45,11 +39,11 @@ impl Store for CoreBoards<'_> {
     ghost loans = { λ s. loan s.words.ghost_name none };
 
     fn fitted(&self) -> usize {
-        self.places()
+        self.words.len().min(LIMIT)
     }
 
     fn kind(&self, place: usize) -> Kind {
-        if place < self.places() {
+        if place < self.fitted() {
             Kind::Writable
         } else {
             Kind::Unfitted
@@ -57,7 +51,7 @@ impl Store for CoreBoards<'_> {
     }
 
     fn read(&self, place: usize) -> u16 {
-        if place < self.places() {
+        if place < self.fitted() {
             self.words[place]
         } else {
             0
@@ -70,7 +64,7 @@ impl Store for CoreBoards<'_> {
         ensures lent { loan self.new.words.ghost_name none ≡ loan self.old.words.ghost_name none }
         ensures words { self.new.words.now ≡ boards_after self.old.words.now place word }
     {
-        if place < self.places() {
+        if place < self.fitted() {
             self.words[place] = word;
         }
     }

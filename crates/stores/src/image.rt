@@ -1,5 +1,5 @@
 ghost use Rattle.std.specs.Prelude.{◌≡◌};
-ghost use Rattle.stores.specs.Layers.{image_places, byte_image, image_after};
+ghost use Rattle.stores.specs.Layers.{byte_image, image_after};
 ghost use Rattle.store.specs.Loans.{none, loan};
 ghost use Rattle.model.specs.Stores.{stored};
 
@@ -29,12 +29,6 @@ impl<'a> ByteImage<'a> {
     {
         self.bytes
     }
-
-    fn places(&self) -> usize
-        ensures { result ≡ image_places self.now.bytes.now }
-    {
-        (self.bytes.len() / 2).min(LIMIT)
-    }
 }
 
 // Fitted places and kinds are spelled as for core boards: a trait over the lent memory would need as many methods as they share.
@@ -44,11 +38,11 @@ impl Store for ByteImage<'_> {
     ghost loans = { λ s. loan s.bytes.ghost_name none };
 
     fn fitted(&self) -> usize {
-        self.places()
+        (self.bytes.len() / 2).min(LIMIT)
     }
 
     fn kind(&self, place: usize) -> Kind {
-        if place < self.places() {
+        if place < self.fitted() {
             Kind::Writable
         } else {
             Kind::Unfitted
@@ -56,7 +50,7 @@ impl Store for ByteImage<'_> {
     }
 
     fn read(&self, place: usize) -> u16 {
-        if place < self.places() {
+        if place < self.fitted() {
             u16::from_be_bytes([self.bytes[2 * place], self.bytes[2 * place + 1]])
         } else {
             0
@@ -69,7 +63,7 @@ impl Store for ByteImage<'_> {
         ensures lent { loan self.new.bytes.ghost_name none ≡ loan self.old.bytes.ghost_name none }
         ensures bytes { self.new.bytes.now ≡ image_after self.old.bytes.now place word }
     {
-        if place < self.places() {
+        if place < self.fitted() {
             let [high, low] = word.to_be_bytes();
             self.bytes[2 * place] = high;
             self.bytes[2 * place + 1] = low;

@@ -3,6 +3,7 @@ ghost use Rattle.std.specs.Prelude.{◌≡◌, Some, None};
 use crate::orders::TapeFault;
 use model::Denial;
 
+// A type of its own, and not a TapeFault at once: obeying a command answers it with `?`, and From adds that there is a letter.
 /// A denial at the letter of a command.
 #[derive(Clone, Copy, Debug, PartialEq, Eq)]
 pub struct Located {

@@ -1,4 +1,4 @@
-use Rattle.isolation.proofs.Whole.{isolation}
+use Rattle.model.proofs.Whole.{isolation}
 use Rattle.comparison.proofs.Chains.{compared}
 use Rattle.comparison.proofs.compare.compare.Goals as goal
 

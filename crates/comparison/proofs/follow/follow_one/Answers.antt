@@ -2,7 +2,7 @@ use Rattle.std.proofs.Common.{◌-◌, length, refl, ap}
 use Rattle.queue.specs.Rows.{queued, capacity}
 use Rattle.model.specs.Console.{Did}
 use Rattle.console.specs.View.{desk_of, stepped_by}
-use Rattle.isolation.specs.Calls.{key, examine, deposit, show, step}
+use Rattle.model.specs.Calls.{key, examine, deposit, show, step}
 use Rattle.comparison.proofs.Chains.{step_followed, told_ok}
 use Rattle.comparison.proofs.follow.follow_one.Goals as goal
 

@@ -1,4 +1,0 @@
-pub mod Windows
-pub mod Calls
-pub mod Isolation
-pub mod Example
