@@ -1,2 +1,3 @@
 pub mod Cases
 pub mod Further
+pub mod Alike

@@ -68,7 +68,7 @@ impl<S: Store, B: Bus> Core<S, B> {
     }
 
     /// Replaces one byte of the halfword at a real address.
-    #[tactic(auto, unfolding(crate::specs::Writes::put_byte))]
+    #[tactic(auto, unfolding(crate::specs::Writes::put, crate::specs::Writes::put_byte))]
     fn write_byte_at(&mut self, r: RealAddress, odd: bool, byte: u8)
         ensures { Leads S.Store.meaning B.Bus.devices (written_at r.at (put_byte odd byte)) self.old (λ s. s) self.new }
     {
