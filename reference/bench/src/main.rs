@@ -1,0 +1,288 @@
+//! Times one loop on the proved emulator, on the plain interpreter of plain.rs and, where it is there, on id32 of SIMH, in turns,
+//! and compares what each leaves. tools/bench builds everything and calls this.
+
+mod plain;
+
+use std::io::{BufRead, BufReader, Read, Write};
+use std::process::{Child, ChildStdin, ChildStdout, Command, Stdio};
+use std::time::{Duration, Instant};
+
+use plain::{Machine, SilentBus};
+
+/// AIS 1,1; LH 2,X'100'(3); STH 1,X'100'(3); BFBS 8,5. They stand at real X'1000'.
+const LOOP: [u16; 6] = [0x2611, 0x4823, 0x0100, 0x4013, 0x0100, 0x2285];
+const START: u32 = 0x1000;
+const SEGMENT: u32 = 0x0010_1010;
+const PLACES: usize = 0x8000;
+const CAPACITY: usize = 4;
+const MOST: u32 = 1_000_000;
+/// The bits of the status but those of the register set, in which id32 runs the loop in set 0.
+const KEPT: u32 = 0xff0f;
+
+/// How the loop runs: with relocation and protection on, or with both off.
+struct Mode {
+    name: &'static str,
+    status: u32,
+    location: u32,
+    index: u32,
+}
+
+const MODES: [Mode; 2] = [
+    Mode {
+        name: "protected",
+        status: 0x45f0,
+        location: 0,
+        index: 0x40,
+    },
+    Mode {
+        name: "free",
+        status: 0x40f0,
+        location: START,
+        index: 0x1040,
+    },
+];
+
+/// A machine that is ready for the loop.
+fn ready(mode: &Mode) -> Machine<SilentBus> {
+    let mut store = vec![0; PLACES];
+    let start = START as usize / 2;
+    store[start..start + LOOP.len()].copy_from_slice(&LOOP);
+    let mut machine = Machine::new(store, SilentBus);
+    machine.segments[0] = SEGMENT;
+    machine.registers[1][3] = mode.index;
+    machine.status = mode.status;
+    machine.location = mode.location;
+    machine
+}
+
+/// Runs the loop on the plain interpreter: the line that it leaves.
+fn plain_line(mode: &Mode, steps: u32) -> String {
+    let mut machine = ready(mode);
+    let mut trace = Vec::with_capacity(CAPACITY);
+    let mut made = 0;
+    while made < steps {
+        let count = (steps - made).min(MOST);
+        let run = machine.run(count, &mut trace, CAPACITY);
+        made += run;
+        if run < count {
+            break;
+        }
+    }
+    let mut line = format!(
+        "{made} steps, status {:08X}, location {:05X}, registers",
+        machine.status, machine.location
+    );
+    for register in machine.registers[1] {
+        line += &format!(" {register:08X}");
+    }
+    line
+}
+
+/// The proved emulator: a process that runs the loop for each line that it is sent, and answers with a line.
+struct Proved {
+    child: Child,
+    input: ChildStdin,
+    output: BufReader<ChildStdout>,
+}
+
+impl Proved {
+    fn new(path: &str) -> Proved {
+        let mut child = Command::new(path)
+            .stdin(Stdio::piped())
+            .stdout(Stdio::piped())
+            .spawn()
+            .expect("the proved program runs");
+        let input = child.stdin.take().expect("its input is a pipe");
+        let output = BufReader::new(child.stdout.take().expect("its output is a pipe"));
+        Proved {
+            child,
+            input,
+            output,
+        }
+    }
+
+    fn line(&mut self, mode: &Mode, steps: u32) -> String {
+        writeln!(self.input, "{} {steps}", mode.name).expect("the proved program reads");
+        let mut line = String::new();
+        self.output
+            .read_line(&mut line)
+            .expect("the proved program answers");
+        line.trim_end().to_string()
+    }
+
+    fn end(self) {
+        let Proved {
+            mut child,
+            input,
+            output: _,
+        } = self;
+        drop(input);
+        child.wait().expect("the proved program ends");
+    }
+}
+
+/// What id32 prints for the loop, and the time that it takes with its start.
+fn id32_text(path: &str, mode: &Mode, steps: u32) -> (String, Duration) {
+    let begun = Instant::now();
+    let mut child = Command::new(path)
+        .stdin(Stdio::piped())
+        .stdout(Stdio::piped())
+        .spawn()
+        .expect("id32 runs");
+    let mut script = String::new();
+    for (address, pair) in (START..).step_by(4).zip(LOOP.chunks(2)) {
+        script += &format!("d {address:x} {:04x}{:04x}\n", pair[0], pair[1]);
+    }
+    script += &format!(
+        "d psw {:x}\nd pc {:x}\nd r3 {:x}\nd macreg[0] {SEGMENT:x}\ns {steps}\n",
+        mode.status & KEPT,
+        mode.location,
+        mode.index
+    );
+    script += "ex psw\nex pc\nex r1\nex r2\nex r3\nexit\n";
+    let mut input = child.stdin.take().expect("its input is a pipe");
+    input.write_all(script.as_bytes()).expect("id32 reads");
+    drop(input);
+    let mut text = String::new();
+    child
+        .stdout
+        .take()
+        .expect("its output is a pipe")
+        .read_to_string(&mut text)
+        .expect("id32 prints");
+    let time = processor_time(&child.id().to_string()).unwrap_or_else(|| begun.elapsed());
+    child.wait().expect("id32 ends");
+    (text, time)
+}
+
+/// The number that id32 shows under a name.
+fn shown(text: &str, name: &str) -> Option<u32> {
+    text.lines().find_map(|line| {
+        let value = line.trim_start_matches("sim> ").strip_prefix(name)?;
+        u32::from_str_radix(value.strip_prefix(':')?.trim(), 16).ok()
+    })
+}
+
+/// Whether what id32 shows is what a line has, in registers 1, 2 and 3, the condition code and the Location Counter.
+fn agrees(text: &str, line: &str) -> bool {
+    let words: Vec<&str> = line.split([' ', ',']).filter(|w| !w.is_empty()).collect();
+    let number = |place: usize| {
+        words
+            .get(place)
+            .and_then(|word| u32::from_str_radix(word, 16).ok())
+    };
+    let low = |value: Option<u32>| value.map(|v| v & KEPT);
+    shown(text, "R1") == number(8)
+        && shown(text, "R2") == number(9)
+        && shown(text, "R3") == number(10)
+        && low(shown(text, "PSW")) == low(number(3))
+        && shown(text, "PC") == number(5)
+}
+
+/// The processor time that a process has used, where the system tells.
+fn processor_time(process: &str) -> Option<Duration> {
+    let text = std::fs::read_to_string(format!("/proc/{process}/schedstat")).ok()?;
+    let nanoseconds = text.split(' ').next()?.parse().ok()?;
+    Some(Duration::from_nanos(nanoseconds))
+}
+
+/// What a call gives, and the processor time that a process uses for it; where the system tells none, the time by the clock.
+fn timed<T>(process: &str, call: impl FnOnce() -> T) -> (T, Duration) {
+    // The system's count for a process that runs is brought up to date when it yields.
+    std::thread::yield_now();
+    let before = processor_time(process);
+    let begun = Instant::now();
+    let value = call();
+    let elapsed = begun.elapsed();
+    std::thread::yield_now();
+    let time = match (before, processor_time(process)) {
+        (Some(before), Some(after)) => after.saturating_sub(before),
+        _ => elapsed,
+    };
+    (value, time)
+}
+
+fn per_step(time: Duration, steps: u32) -> f64 {
+    time.as_secs_f64() * 1e9 / f64::from(steps)
+}
+
+fn load() -> String {
+    std::fs::read_to_string("/proc/loadavg")
+        .ok()
+        .and_then(|text| text.split(' ').next().map(str::to_string))
+        .unwrap_or_else(|| "unknown".to_string())
+}
+
+/// Times a mode; whether all agreed.
+fn compare(proved: &mut Proved, id32: Option<&str>, mode: &Mode, steps: u32, rounds: u32) -> bool {
+    let mut best = [Duration::MAX; 3];
+    let mut id32_start = Duration::MAX;
+    let mut line = String::new();
+    let mut agreed = true;
+    for _ in 0..rounds {
+        let process = proved.child.id().to_string();
+        let (ours, time) = timed(&process, || proved.line(mode, steps));
+        best[0] = best[0].min(time);
+        let (theirs, time) = timed("self", || plain_line(mode, steps));
+        best[1] = best[1].min(time);
+        if line.is_empty() {
+            println!("{}", mode.name);
+            println!("  proved: {ours}");
+            println!("  plain:  {theirs}");
+        }
+        agreed &= ours == theirs;
+        line = theirs;
+        if let Some(path) = id32 {
+            let (_, time) = id32_text(path, mode, 1);
+            id32_start = id32_start.min(time);
+            let (text, time) = id32_text(path, mode, steps);
+            best[2] = best[2].min(time);
+            agreed &= agrees(&text, &line);
+        }
+    }
+    let [ours, theirs, simh] = best;
+    println!("  {}", if agreed { "all agree" } else { "THEY DIFFER" });
+    println!("  proved {:7.3} ns a step", per_step(ours, steps));
+    println!("  plain  {:7.3} ns a step", per_step(theirs, steps));
+    println!(
+        "  ratio proved / plain: {:.3}",
+        ours.as_secs_f64() / theirs.as_secs_f64()
+    );
+    if id32.is_some() {
+        let simh = simh.saturating_sub(id32_start);
+        println!(
+            "  id32   {:7.3} ns a step, its start taken off",
+            per_step(simh, steps)
+        );
+        println!(
+            "  ratio proved / id32:  {:.3}",
+            ours.as_secs_f64() / simh.as_secs_f64()
+        );
+    }
+    agreed
+}
+
+fn main() {
+    let arguments: Vec<String> = std::env::args().collect();
+    let [_, program, id32, steps, rounds] = arguments.as_slice() else {
+        eprintln!("usage: bench PROVED-PROGRAM ID32-OR-NONE STEPS ROUNDS");
+        std::process::exit(2);
+    };
+    let steps: u32 = steps.parse().expect("a number of steps");
+    let rounds: u32 = rounds.parse().expect("a number of rounds");
+    let id32 = Some(id32.as_str()).filter(|path| *path != "none");
+    println!("{steps} steps, best of {rounds} rounds, load {}", load());
+    let mut proved = Proved::new(program);
+    let mut agreed = true;
+    for mode in &MODES {
+        agreed &= compare(&mut proved, id32, mode, steps, rounds);
+    }
+    proved.end();
+    if id32.is_none() {
+        println!("no id32 here: install Debian's package simh to have the ratio to it");
+    }
+    println!("load at the end {}", load());
+    if !agreed {
+        std::process::exit(1);
+    }
+}
