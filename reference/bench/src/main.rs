@@ -213,53 +213,89 @@ fn load() -> String {
         .unwrap_or_else(|| "unknown".to_string())
 }
 
-/// Times a mode; whether all agreed.
-fn compare(proved: &mut Proved, id32: Option<&str>, mode: &Mode, steps: u32, rounds: u32) -> bool {
-    let mut best = [Duration::MAX; 3];
-    let mut id32_start = Duration::MAX;
-    let mut line = String::new();
-    let mut agreed = true;
+/// The least times of a run of so many steps: the proved emulator, the plain interpreter, and id32 with its start taken off.
+struct Best {
+    proved: Duration,
+    plain: Duration,
+    id32: Option<Duration>,
+}
+
+impl Best {
+    fn print(&self, steps: u32) {
+        println!("    proved {:7.3} ns a step", per_step(self.proved, steps));
+        println!("    plain  {:7.3} ns a step", per_step(self.plain, steps));
+        let proved = self.proved.as_secs_f64();
+        println!(
+            "    ratio proved / plain {:.3}",
+            proved / self.plain.as_secs_f64()
+        );
+        if let Some(id32) = self.id32 {
+            println!(
+                "    id32   {:7.3} ns a step, its start taken off",
+                per_step(id32, steps)
+            );
+            println!(
+                "    ratio proved / id32  {:.3}",
+                proved / id32.as_secs_f64()
+            );
+        }
+    }
+}
+
+/// Runs the loop on each in turn, so many rounds: the least times; none if one leaves another line than the first round's plain run.
+fn best(
+    proved: &mut Proved,
+    id32: Option<&str>,
+    mode: &Mode,
+    steps: u32,
+    rounds: u32,
+) -> Option<Best> {
+    let process = proved.child.id().to_string();
+    let line = plain_line(mode, steps);
+    let mut best = Best {
+        proved: Duration::MAX,
+        plain: Duration::MAX,
+        id32: id32.map(|_| Duration::MAX),
+    };
+    let mut start = Duration::MAX;
     for _ in 0..rounds {
-        let process = proved.child.id().to_string();
         let (ours, time) = timed(&process, || proved.line(mode, steps));
-        best[0] = best[0].min(time);
+        best.proved = best.proved.min(time);
         let (theirs, time) = timed("self", || plain_line(mode, steps));
-        best[1] = best[1].min(time);
-        if line.is_empty() {
-            println!("{}", mode.name);
-            println!("  proved: {ours}");
-            println!("  plain:  {theirs}");
+        best.plain = best.plain.min(time);
+        if ours != line || theirs != line {
+            println!("    THEY DIFFER: {ours} and {theirs}");
+            return None;
         }
-        agreed &= ours == theirs;
-        line = theirs;
-        if let Some(path) = id32 {
-            let (_, time) = id32_text(path, mode, 1);
-            id32_start = id32_start.min(time);
+        if let (Some(path), Some(least)) = (id32, best.id32) {
+            start = start.min(id32_text(path, mode, 1).1);
             let (text, time) = id32_text(path, mode, steps);
-            best[2] = best[2].min(time);
-            agreed &= agrees(&text, &line);
+            best.id32 = Some(least.min(time));
+            if !agrees(&text, &line) {
+                println!("    ID32 DIFFERS: {text}");
+                return None;
+            }
         }
     }
-    let [ours, theirs, simh] = best;
-    println!("  {}", if agreed { "all agree" } else { "THEY DIFFER" });
-    println!("  proved {:7.3} ns a step", per_step(ours, steps));
-    println!("  plain  {:7.3} ns a step", per_step(theirs, steps));
-    println!(
-        "  ratio proved / plain: {:.3}",
-        ours.as_secs_f64() / theirs.as_secs_f64()
-    );
-    if id32.is_some() {
-        let simh = simh.saturating_sub(id32_start);
-        println!(
-            "  id32   {:7.3} ns a step, its start taken off",
-            per_step(simh, steps)
-        );
-        println!(
-            "  ratio proved / id32:  {:.3}",
-            ours.as_secs_f64() / simh.as_secs_f64()
-        );
+    best.id32 = best.id32.map(|time| time.saturating_sub(start));
+    Some(best)
+}
+
+/// Compares and times a mode, by whole runs and by runs of a tenth, and prints what comes of it; whether all agreed.
+fn compare(proved: &mut Proved, id32: Option<&str>, mode: &Mode, steps: u32, rounds: u32) -> bool {
+    println!("{}", mode.name);
+    println!("  proved {}", proved.line(mode, steps));
+    println!("  plain  {}", plain_line(mode, steps));
+    // The runs of a tenth find a quiet moment on a busy machine; id32's start would be a large part of them.
+    for (steps, rounds, id32) in [(steps, rounds, id32), (steps / 10, rounds * 10, None)] {
+        println!("  {steps} steps, best of {rounds} runs");
+        let Some(best) = best(proved, id32, mode, steps, rounds) else {
+            return false;
+        };
+        println!("    all agree");
+        best.print(steps);
     }
-    agreed
+    true
 }
 
 fn main() {
@@ -271,7 +307,7 @@ fn main() {
     let steps: u32 = steps.parse().expect("a number of steps");
     let rounds: u32 = rounds.parse().expect("a number of rounds");
     let id32 = Some(id32.as_str()).filter(|path| *path != "none");
-    println!("{steps} steps, best of {rounds} rounds, load {}", load());
+    println!("load {}", load());
     let mut proved = Proved::new(program);
     let mut agreed = true;
     for mode in &MODES {
