@@ -164,7 +164,7 @@ impl<B: Bus> Machine<B> {
                 _ => return Err(self.fault(0x04)),
             },
         }
-        Ok(((segment >> 8 & 0xfff) + block & 0xfff) << 8 | address & 0xff)
+        Ok((((segment >> 8 & 0xfff) + block) & 0xfff) << 8 | address & 0xff)
     }
 
     /// Whether a real address is one of the controller's own.
@@ -251,20 +251,20 @@ impl<B: Bus> Machine<B> {
 
     /// The operand address of an RX instruction, and the address of the next instruction.
     fn address(&mut self, own: u32, first: u16) -> Result<(u32, u32), Trap> {
-        let second = u32::from(self.fetch(own + 2 & ADDRESS)?);
+        let second = u32::from(self.fetch((own + 2) & ADDRESS)?);
         let index = self.index(u32::from(first) & 15);
         Ok(match second >> 14 {
-            0 => (second.wrapping_add(index) & ADDRESS, own + 4 & ADDRESS),
+            0 => (second.wrapping_add(index) & ADDRESS, (own + 4) & ADDRESS),
             1 => {
-                let third = u32::from(self.fetch(own + 4 & ADDRESS)?);
+                let third = u32::from(self.fetch((own + 4) & ADDRESS)?);
                 let sum = ((second & 0xff) << 16 | third)
                     .wrapping_add(index)
                     .wrapping_add(self.index(second >> 8 & 15));
-                (sum & ADDRESS, own + 6 & ADDRESS)
+                (sum & ADDRESS, (own + 6) & ADDRESS)
             }
             _ => {
                 let displacement = ((second << 17) as i32 >> 17) as u32;
-                let next = own + 4 & ADDRESS;
+                let next = (own + 4) & ADDRESS;
                 let sum = displacement.wrapping_add(next).wrapping_add(index);
                 (sum & ADDRESS, next)
             }
@@ -320,7 +320,7 @@ impl<B: Bus> Machine<B> {
         let code = (first >> 8) as u8;
         let r1 = u32::from(first) >> 4 & 15;
         let r2 = u32::from(first) & 15;
-        let next = own + 2 & ADDRESS;
+        let next = (own + 2) & ADDRESS;
         match code {
             0x01 => {
                 let target = self.reg(r2);
@@ -340,14 +340,14 @@ impl<B: Bus> Machine<B> {
                 let x = self.reg(r1);
                 let last = if r2 == 0 { 0 } else { x >> (r2 - 1) & 1 };
                 self.set_reg(r1, x >> r2);
-                self.set_code(marks(x >> r2) | last * C);
+                self.set_code(marks(x >> r2) | (last * C));
                 self.location = next;
             }
             0x11 => {
                 let x = self.reg(r1);
                 let last = if r2 == 0 { 0 } else { x >> (32 - r2) & 1 };
                 self.set_reg(r1, x << r2);
-                self.set_code(marks(x << r2) | last * C);
+                self.set_code(marks(x << r2) | (last * C));
                 self.location = next;
             }
             0x20 | 0x22 => {
@@ -414,10 +414,10 @@ impl<B: Bus> Machine<B> {
                 self.location = next;
             }
             0xc3..=0xcb => {
-                let second = self.fetch(own + 2 & ADDRESS)?;
+                let second = self.fetch((own + 2) & ADDRESS)?;
                 let y = (second as i16 as u32).wrapping_add(self.index(r2));
                 self.apply(code, r1, y);
-                self.location = own + 4 & ADDRESS;
+                self.location = (own + 4) & ADDRESS;
             }
             0xd3 => {
                 let (address, next) = self.address(own, first)?;
@@ -441,11 +441,11 @@ impl<B: Bus> Machine<B> {
                 self.location = next;
             }
             0xf3..=0xfb => {
-                let second = u32::from(self.fetch(own + 2 & ADDRESS)?);
-                let third = u32::from(self.fetch(own + 4 & ADDRESS)?);
+                let second = u32::from(self.fetch((own + 2) & ADDRESS)?);
+                let third = u32::from(self.fetch((own + 4) & ADDRESS)?);
                 let y = (second << 16 | third).wrapping_add(self.index(r2));
                 self.apply(code, r1, y);
-                self.location = own + 6 & ADDRESS;
+                self.location = (own + 6) & ADDRESS;
             }
             _ => return Err(Trap::Illegal),
         }
