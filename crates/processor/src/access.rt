@@ -15,6 +15,7 @@ use store::meaning::Store;
 impl<S: Store, B: Bus> Core<S, B> {
     /// The real address of an access, once the controller has let it through.
     #[tactic(auto, using(crate::proofs::Addresses::address_same))]
+    #[inline(always)]
     fn translate(&mut self, access: Access, a: ProgramAddress) -> Result<RealAddress, Trap>
         ensures { Leads S.Store.meaning B.Bus.devices (translated access (address a.at)) self.old (out_real result) self.new }
     {
@@ -39,6 +40,7 @@ impl<S: Store, B: Bus> Core<S, B> {
         Ok(())
     }
 
+    #[inline(always)]
     fn reaches_controller(&self, r: RealAddress) -> bool
         ensures { result ≡ reaches_controller r.at (state_of S.Store.meaning B.Bus.devices self.now) }
     {
@@ -46,6 +48,7 @@ impl<S: Store, B: Bus> Core<S, B> {
     }
 
     /// Reads at a real address, as a program does.
+    #[inline(always)]
     fn read_at(&mut self, r: RealAddress) -> u16
         ensures { Leads S.Store.meaning B.Bus.devices (read_at r.at) self.old (went result) self.new }
     {
@@ -57,6 +60,7 @@ impl<S: Store, B: Bus> Core<S, B> {
 
     /// Writes at a real address, as a program does.
     #[tactic(auto, unfolding(crate::specs::Writes::put))]
+    #[inline(always)]
     fn write_at(&mut self, r: RealAddress, half: u16)
         ensures { Leads S.Store.meaning B.Bus.devices (written_at r.at (put half)) self.old (λ s. s) self.new }
     {
@@ -81,6 +85,7 @@ impl<S: Store, B: Bus> Core<S, B> {
     }
 
     /// Fetches a halfword of an instruction.
+    #[inline(always)]
     pub fn fetch(&mut self, a: ProgramAddress) -> Result<u16, Trap>
         ensures { GivesQuietly S.Store.meaning B.Bus.devices (fetch a.at) self.old result self.new }
     {
@@ -89,6 +94,7 @@ impl<S: Store, B: Bus> Core<S, B> {
     }
 
     /// Loads a halfword.
+    #[inline(always)]
     pub fn load(&mut self, a: ProgramAddress) -> Result<u16, Trap>
         ensures { GivesQuietly S.Store.meaning B.Bus.devices (load a.at) self.old result self.new }
     {
@@ -97,6 +103,7 @@ impl<S: Store, B: Bus> Core<S, B> {
     }
 
     /// Stores a halfword.
+    #[inline(always)]
     pub fn store(&mut self, a: ProgramAddress, half: u16) -> Result<(), Trap>
         ensures { DoesQuietly S.Store.meaning B.Bus.devices (storing a.at (put half)) self.old result self.new }
     {

@@ -165,6 +165,7 @@ impl Controller {
         self.faults |= u32::from(bit);
     }
 
+    #[inline(always)]
     fn chosen(&self, a: ProgramAddress) -> Segment
         ensures { result.word ≡ chosen self.now.segments a.at }
     {
@@ -174,6 +175,7 @@ impl Controller {
     }
 
     /// What the first check that fails says of an access, relocation on.
+    #[inline(always)]
     pub fn verdict(&self, access: Access, a: ProgramAddress) -> Result<Grant, Violation>
         ensures { result ≡ verdict access self.now.segments a.at }
     {
@@ -192,6 +194,7 @@ impl Controller {
     }
 
     /// The same, and a violation sets its bit of the interrupt status.
+    #[inline(always)]
     pub fn judge(&mut self, access: Access, a: ProgramAddress) -> Result<Grant, Violation>
         ensures verdict { result ≡ verdict access self.old.segments a.at }
         ensures segments { self.new.segments ≡ self.old.segments }
@@ -205,6 +208,7 @@ impl Controller {
     }
 
     /// The real address that a program address reaches, relocation on.
+    #[inline(always)]
     pub fn real(&self, a: ProgramAddress) -> RealAddress
         ensures { result.at ≡ real self.now.segments a.at }
     {
@@ -227,6 +231,7 @@ impl Controller {
     }
 
     /// Reads at one of the controller's own addresses; at X'342' this clears the interrupt status.
+    #[cold]
     pub fn read(&mut self, r: RealAddress) -> u16
         ensures value { result ≡ controller_half self.old.segments self.old.faults r.at }
         ensures segments { self.new.segments ≡ self.old.segments }
@@ -240,6 +245,7 @@ impl Controller {
     }
 
     /// Writes a half at one of the controller's own addresses; only segmentation registers change.
+    #[cold]
     pub fn write(&mut self, r: RealAddress, half: u16)
         ensures segments { self.new.segments ≡ segments_after self.old.segments r.at half }
         ensures faults { self.new.faults ≡ self.old.faults }
