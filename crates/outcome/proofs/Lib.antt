@@ -1,2 +1,4 @@
+mod Banks
 mod Digits
+mod Shows
 mod Sixteen

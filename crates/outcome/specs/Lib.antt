@@ -1,2 +1,4 @@
 pub mod Digests
+pub mod Outcomes
+pub mod Shown
 pub mod Texts
