@@ -1,4 +1,3 @@
 mod Banks
 mod Digits
-mod Shows
 mod Sixteen

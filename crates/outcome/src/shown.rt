@@ -46,7 +46,7 @@ fn register(bank: Bank, number: u8) -> Item
 }
 
 /// The number in a register that is there, of a machine whose key is ON. The machine stays as it is.
-#[tactic(auto, using(crate::proofs::Shows::shown_on))]
+#[tactic(auto, using(session::proofs::Shows::shown_on))]
 fn number_in<S: Store, B: Bus>(machine: &mut Machine<S, B>, item: Item) -> u32
     ensures found { number_of machine.old.key.position ≡ on → item_denial item ≡ None → result ≡ item_of item (desk_of S.Store.meaning B.Bus.devices machine.old).core }
     ensures same { machine.new ≡ machine.old }

@@ -1,1 +1,1 @@
-mod Shows
+pub mod Shows

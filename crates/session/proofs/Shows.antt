@@ -1,4 +1,4 @@
--- With the key ON, a register that is there is shown.
+-- With the key ON, the number of a register that is there is shown.
 use Rattle.std.proofs.Common.{◌≡◌, ℕ, eqb, None, Ok, Err, Option, Result, sym, ap, ◌∙◌, arith}
 use Rattle.model.specs.declared.Denial.{Denial}
 use Rattle.model.specs.declared.Item.{Item}
@@ -12,9 +12,9 @@ value v (Ok x) e = cc
 value v (Err d) e = let z : ◌≡◌ {A = ℕ} 0 1 = cc in absurd (omega arith)
 
 module _ (meaning : ℕ → Prog) where
-  pub show_on :
-      (i : Item) (w v : Desk) (r : Result ℕ Denial) → w.key ≡ on → item_denial i ≡ None → call meaning (show_item i) w ≡ gives (shown_by r) v → r ≡ Ok (item_of i w.core)
-  show_on i w v r key there e =
+  pub shown_on :
+      (i : Item) (w v : Desk) (r : Result ℕ Denial) → call meaning (show_item i) w ≡ gives (shown_by r) v → w.key ≡ on → item_denial i ≡ None → r ≡ Ok (item_of i w.core)
+  shown_on i w v r e key there =
       let free : or_else (or_else (deny_if (eqb w.key 0) 7) (deny_if (eqb w.key 2) 8)) (item_denial i) ≡ None =
       ap (λ (k : ℕ). or_else (or_else (deny_if (eqb k 0) 7) (deny_if (eqb k 2) 8)) (item_denial i)) key ∙ there in
       let did : call meaning (show_item i) w ≡ gives (shown (item_of i w.core)) w = ap (λ (d : Option ℕ). unless_denied d w (gives (shown (item_of i w.core)) w)) free in

@@ -4,13 +4,13 @@ use Rattle.model.specs.declared.Item.TheVariants.{Status, Location}
 use Rattle.instructions.specs.Instructions.{instruction}
 use Rattle.console.specs.Keys.{number_of}
 use Rattle.console.specs.View.{desk_of}
-use Rattle.session.proofs.Shows.{show_on}
+use Rattle.session.proofs.Shows.{shown_on}
 use Rattle.session.proofs.session.line_of.Goals as goal
 
 pub returns : goal.returns
 returns g c = λ key.
     let same = c.show.ensures.same in
     let key' : number_of c.show.new.self.key.position ≡ on = ap (λ m. number_of m.key.position) same ∙ key in
-    let one = show_on instruction Location (desk_of g.S.Store.meaning g.B.Bus.devices c.args.machine.now) _ c.show.result key refl c.show.ensures.says in
-    let two = show_on instruction Status (desk_of g.S.Store.meaning g.B.Bus.devices c.show.new.self) _ c.show-2.result key' refl c.show-2.ensures.says in
+    let one = shown_on instruction Location (desk_of g.S.Store.meaning g.B.Bus.devices c.args.machine.now) _ c.show.result c.show.ensures.says key refl in
+    let two = shown_on instruction Status (desk_of g.S.Store.meaning g.B.Bus.devices c.show.new.self) _ c.show-2.result c.show-2.ensures.says key' refl in
     search (rules, one, two, same)
