@@ -2,8 +2,9 @@ ghost use Rattle.std.specs.Prelude.{◌≡◌, ◌≤◌, true};
 ghost use Rattle.bus.specs.Devices.{Quiet, Reads, Writes, Commands};
 ghost use Rattle.model.specs.Buses.{Bus as Meaning, lowest};
 
-/// The devices of a machine. The meaning of a bus is that of each device, 1 to 255; an implementation shows exactly this.
-/// Questions change nothing. Only a device that answers is read, written or commanded.
+/// The devices of a machine. The meaning of a bus is that of each device, 1 to 255. An implementation shows whether a device answers, its
+/// status, its offer and whether it requests; the latest bytes and the counts stand in the meaning alone. Questions change nothing.
+/// Only a device that answers is read, written or commanded.
 pub trait Bus {
     ghost devices: { Self → Meaning };
 

@@ -18,6 +18,7 @@ pub fn result<S: Store, B: Bus>(m: &mut Core<S, B>, r1: u8, value: u32)
 }
 
 /// Applies a function of a family to a register and an operand.
+#[inline(always)]
 pub fn apply<S: Store, B: Bus>(m: &mut Core<S, B>, function: Function, r1: u8, y: u32)
     ensures { SetsQuietly S.Store.meaning B.Bus.devices (apply_tree function r1 y) m.old m.new }
 {

@@ -1,5 +1,5 @@
-ghost use Rattle.std.specs.Prelude.{◌≡◌, min};
-ghost use Rattle.store.specs.Boards.{core_boards, boards_after};
+ghost use Rattle.std.specs.Prelude.{◌≡◌, min, nat_lt};
+ghost use Rattle.store.specs.Boards.{board_places, core_boards, boards_after};
 ghost use Rattle.store.specs.Loans.{none, loan};
 ghost use Rattle.model.specs.Stores.{stored};
 
@@ -31,6 +31,13 @@ impl<'a> CoreBoards<'a> {
     {
         self.words
     }
+
+    /// Whether a place is fitted. By two comparisons: where the compiler knows that a place is below the limit, one is left.
+    fn holds(&self, place: usize) -> bool
+        ensures { result ≡ nat_lt place (board_places self.now.words.now) }
+    {
+        place < LIMIT && place < self.words.len()
+    }
 }
 
 impl Store for CoreBoards<'_> {
@@ -43,7 +50,7 @@ impl Store for CoreBoards<'_> {
     }
 
     fn kind(&self, place: usize) -> Kind {
-        if place < self.fitted() {
+        if self.holds(place) {
             Kind::Writable
         } else {
             Kind::Unfitted
@@ -51,7 +58,7 @@ impl Store for CoreBoards<'_> {
     }
 
     fn read(&self, place: usize) -> u16 {
-        if place < self.fitted() {
+        if self.holds(place) {
             self.words[place]
         } else {
             0
@@ -64,7 +71,7 @@ impl Store for CoreBoards<'_> {
         ensures lent { loan self.new.words.ghost_name none ≡ loan self.old.words.ghost_name none }
         ensures words { self.new.words.now ≡ boards_after self.old.words.now place word }
     {
-        if place < self.fitted() {
+        if self.holds(place) {
             self.words[place] = word;
         }
     }
