@@ -120,7 +120,10 @@ fn cut_short(rt: HostRuntime) {
     let mut m = Machine::make(CoreBoards::new(&mut words), SilentBus {});
     for tape in cases {
         let letter = tape.first().copied().unwrap_or(0);
-        assert_eq!(rt; played(m.play(tape, &mut trace)), [6, 0, usize::from(letter)]);
+        assert_eq!(rt;
+            played(m.play(tape, &mut trace)),
+            [6, 0, usize::from(letter)]
+        );
     }
     assert_eq!(rt; m.show(Item::Status).unwrap_or(0), 0x8000);
 }
