@@ -1,5 +1,6 @@
-ghost use Rattle.std.specs.Prelude.{◌≡◌};
-ghost use Rattle.queue.specs.Rows.{queued};
+ghost use Rattle.std.specs.Prelude.{◌≡◌, true};
+ghost use Rattle.queue.specs.Rows.{queued, SameSlots};
+ghost use Rattle.bus.specs.Devices.{Reads, Writes, Commands};
 ghost use Rattle.buses.specs.Devices.{unused, once_read, oldest, rest, teletype};
 
 use crate::usage::Usage;
@@ -44,6 +45,7 @@ impl<'a> Teletype<'a> {
     fn take(&mut self) -> u8
         ensures value { result ≡ oldest (queued self.old.waiting) }
         ensures taken { queued self.new.waiting ≡ rest (queued self.old.waiting) }
+        ensures same { SameSlots self.old.waiting self.new.waiting }
         ensures counted { self.new.usage ≡ once_read self.old.usage }
     {
         self.usage.read();
@@ -81,15 +83,32 @@ impl Bus for Teletype<'_> {
         self.requests(NUMBER).then_some(NUMBER)
     }
 
-    fn read(&mut self, _device: u8) -> u8 {
+    /// The oldest byte is taken, and no other.
+    fn read(&mut self, device: u8) -> u8
+        requires { (teletype (queued self.old.waiting) self.old.usage device).answers ≡ true }
+        ensures value { result ≡ (teletype (queued self.old.waiting) self.old.usage device).offer }
+        ensures counted { Reads device (teletype (queued self.old.waiting) self.old.usage) (teletype (queued self.new.waiting) self.new.usage) }
+        ensures taken { queued self.new.waiting ≡ rest (queued self.old.waiting) }
+        ensures same { SameSlots self.old.waiting self.new.waiting }
+    {
         self.take()
     }
 
-    fn write(&mut self, _device: u8, byte: u8) {
+    /// The bytes that wait stay.
+    fn write(&mut self, device: u8, byte: u8)
+        requires { (teletype (queued self.old.waiting) self.old.usage device).answers ≡ true }
+        ensures counted { Writes device byte (teletype (queued self.old.waiting) self.old.usage) (teletype (queued self.new.waiting) self.new.usage) }
+        ensures waits { self.new.waiting ≡ self.old.waiting }
+    {
         self.usage.write(byte);
     }
 
-    fn command(&mut self, _device: u8, byte: u8) {
+    /// The bytes that wait stay.
+    fn command(&mut self, device: u8, byte: u8)
+        requires { (teletype (queued self.old.waiting) self.old.usage device).answers ≡ true }
+        ensures counted { Commands device byte (teletype (queued self.old.waiting) self.old.usage) (teletype (queued self.new.waiting) self.new.usage) }
+        ensures waits { self.new.waiting ≡ self.old.waiting }
+    {
         self.usage.command(byte);
     }
 }
