@@ -22,25 +22,27 @@ use Rattle.model.proofs.Whole.{isolation}
 use Rattle.comparison.specs.declared.calls.Call.{Call}
 use Rattle.comparison.specs.declared.calls.Call.TheVariants.{TurnKey, Initialise, Examine, Deposit, Set, Show, Step, Run, Play}
 use Rattle.comparison.specs.declared.calls.Continued.{Continued as Asking}
-use Rattle.comparison.specs.Lists.{Performs, PerformsAll, AskedAs, AllAsked, is_interrupt, tells_interrupt, ends_interrupted, Reports, FollowedOne, Noted, after_all, Tells, Followed, Gone, Compared}
+use Rattle.comparison.specs.Lists.{Performs, PerformsAll, AskedAs, AllAsked, is_interrupt, tells_interrupt, ends_interrupted, Reports, FollowedOne, with_added, with_all_added, Noted, after_all, Tells, Followed, Gone, Compared}
 
 -- ── Histories ──
-performs_none : (w : Desk) → PerformsAll [] w w
+performs_none : (size : ℕ) (w : Desk) (q : List Record) → PerformsAll size [] w q w q
 unfolding PerformsAll
-performs_none w = refl
+performs_none size w q = (refl, refl)
 
-pub performs_start : (cs : List Call) (w : Desk) → PerformsAll (take 0 cs) w w
-performs_start cs w = performs_none w
+pub performs_start : (size : ℕ) (cs : List Call) (w : Desk) (q : List Record) → PerformsAll size (take 0 cs) w q w q
+performs_start size cs w q = performs_none size w q
 
-performs_push : (cs : List Call) (c : Call) (w u v : Desk) → PerformsAll cs w u → Performs c u v → PerformsAll (cs ++ c ∷ []) w v
+performs_push : (size : ℕ) (cs : List Call) (c : Call) (w u v : Desk) (q r p : List Record) → PerformsAll size cs w q u r → Performs size c u r v p → PerformsAll size (cs ++ c ∷ []) w q v p
 unfolding PerformsAll
-performs_push [] c w u v h one = (v, subst (λ (x : Desk). Performs c x v) h one, refl)
-performs_push (d ∷ cs) c w u v h one = (h.0, h.1, performs_push cs c h.0 u v h.2 one)
+performs_push size [] c w u v q r p h one = (v, p, subst (λ (x : Desk). Performs size c x q v p) h.0 (subst (λ (x : List Record). Performs size c u x v p) h.1 one), (refl, refl))
+performs_push size (d ∷ cs) c w u v q r p h one = (h.0, h.1, h.2, performs_push size cs c h.0 u v h.1 r p h.3 one)
 
-pub performs_more : (cs : List Call) (i : ℕ) (c : Call) (w u v : Desk) → i < length cs → c ≡ get_or cs i c → PerformsAll (take i cs) w u → Performs c u v → PerformsAll (take (i + 1) cs) w v
-performs_more cs i c w u v l is h one =
+pub performs_more :
+    (size had : ℕ) (cs : List Call) (i : ℕ) (c : Call) (w u v : Desk) (q r p : List Record) →
+    i < length cs → c ≡ get_or cs i c → PerformsAll size (take i cs) w q u r → Performs had c u r v p → had ≡ size → PerformsAll size (take (i + 1) cs) w q v p
+performs_more size had cs i c w u v q r p l is h one same =
     let more : take (i + 1) cs ≡ take i cs ++ c ∷ [] = take_more cs i c l ∙ ap (λ (z : Call). take i cs ++ z ∷ []) (sym is) in
-    subst (λ (z : List Call). PerformsAll z w v) (sym more) (performs_push (take i cs) c w u v h one)
+    subst (λ (z : List Call). PerformsAll size z w q v p) (sym more) (performs_push size (take i cs) c w u v q r p h (subst (λ (z : ℕ). Performs z c u r v p) same one))
 
 -- ── A step that is asked ──
 abbrev told_of : Answer → Option StepAnswer
@@ -68,13 +70,16 @@ answer_in (told a v p) = a
 abbrev desk_in : Told → Desk
 desk_in (told a v p) = v
 
+abbrev trace_in : Told → List Record
+trace_in (told a v p) = p
+
 pub step_followed :
     (room : ℕ) (reply : Bus) (w v : Desk) (q p : List Record) (a : Answer) (r : Option StepAnswer) →
     tell q (call instruction (Act.step room reply) w) ≡ told a v p → told_of a ≡ r →
-    (after instruction (step room reply) w ≡ v) × Reports (event instruction (step room reply) w) r
+    (after instruction (step room reply) w ≡ v) × (with_added (step room reply) w q ≡ p) × Reports (event instruction (step room reply) w) r
 step_followed room reply w v q p a r e er =
     let ans : (call instruction (Act.step room reply) w).answer ≡ a = ap answer_in e in
-    (ap desk_in e, subst (λ (z : Option StepAnswer). Reports (event instruction (step room reply) w) z) (ap told_of ans ∙ er) (reported (denial (Act.step room reply) w) w (step_of instruction reply w.core)))
+    (ap desk_in e, ap trace_in e, subst (λ (z : Option StepAnswer). Reports (event instruction (step room reply) w) z) (ap told_of ans ∙ er) (reported (denial (Act.step room reply) w) w (step_of instruction reply w.core)))
 
 -- ── Lists ──
 -- A course with one more call behind it.
@@ -110,11 +115,17 @@ after_more : (l : List Continued) (c : Continued) (w : Desk) → after_all (l ++
 after_more [] c w = refl
 after_more (d ∷ l) c w = after_more l c (after instruction d w)
 
-asked_more : (xs : List Asking) (l : List Continued) (x : Asking) (c : Continued) → AllAsked xs l → AskedAs x c → AllAsked (xs ++ x ∷ []) (l ++ c ∷ [])
-asked_more [] [] x c h one = (one, tt)
-asked_more [] (d ∷ l) x c h one = absurd h
-asked_more (y ∷ xs) [] x c h one = absurd h
-asked_more (y ∷ xs) (d ∷ l) x c h one = (h.0, asked_more xs l x c h.1 one)
+added_more : (l : List Continued) (c : Continued) (w : Desk) (q : List Record) → with_all_added (l ++ c ∷ []) w q ≡ with_added c (after_all l w) (with_all_added l w q)
+added_more [] c w q = refl
+added_more (d ∷ l) c w q = added_more l c (after instruction d w) (with_added d w q)
+
+asked_more :
+    (size : ℕ) (xs : List Asking) (l : List Continued) (x : Asking) (c : Continued) (w : Desk) (q : List Record) →
+    AllAsked size xs l w q → AskedAs (size - length (with_all_added l w q)) x c → AllAsked size (xs ++ x ∷ []) (l ++ c ∷ []) w q
+asked_more size [] [] x c w q h one = (one, tt)
+asked_more size [] (d ∷ l) x c w q h one = absurd h
+asked_more size (y ∷ xs) [] x c w q h one = absurd h
+asked_more size (y ∷ xs) (d ∷ l) x c w q h one = (h.0, asked_more size xs l x c (after instruction d w) (with_added d w q) h.1 one)
 
 pushed :
     (xs : List Answer) (ys zs : List StepAnswer) (a : Answer) (x y : StepAnswer) →
@@ -150,51 +161,54 @@ tells_more (quiet xs s) (interrupted a k) t None ys zs b is h p n = let q = p.2 
 tells_more (quiet xs s) (interrupted a k) t (Some x) ys zs true is h p n = absurd (false≢true (sym h.1 ∙ is))
 tells_more (quiet xs s) (interrupted a k) t (Some x) ys zs false is h p n = (pushed xs ys zs a x p.0 h.0 p.1 p.2 n, ends_with ys zs x p.0 n p.2 ∙ p.3)
 
-pub followed_start : (asked : List Asking) (w : Desk) (ys : List StepAnswer) → ys ≡ [] → Followed (take 0 asked) w ys w
-followed_start asked w ys e = record { list = []; each = tt; leads = refl; tells = (ap (map stepped) (sym e), ap ends_interrupted e) }
+pub followed_start : (size : ℕ) (asked : List Asking) (w : Desk) (q : List Record) (ys : List StepAnswer) → ys ≡ [] → Followed size (take 0 asked) w q ys w q
+followed_start size asked w q ys e = record { list = []; each = tt; leads = refl; adds = refl; tells = (ap (map stepped) (sym e), ap ends_interrupted e) }
 
 pub followed_more :
-    (asked : List Asking) (i : ℕ) (x : Asking) (w u v : Desk) (ys zs : List StepAnswer) (r : Option StepAnswer) →
-    i < length asked → x ≡ get_or asked i x → Followed (take i asked) w ys u → FollowedOne x u r v → Noted r ys (ends_interrupted ys) zs → Followed (take (i + 1) asked) w zs v
-followed_more asked i x w u v ys zs r l is h one n =
+    (size had : ℕ) (asked : List Asking) (i : ℕ) (x : Asking) (w u v : Desk) (q s p : List Record) (ys zs : List StepAnswer) (r : Option StepAnswer) →
+    i < length asked → x ≡ get_or asked i x → Followed size (take i asked) w q ys u s → FollowedOne had x u s r v p → had ≡ size → Noted r ys (ends_interrupted ys) zs →
+    Followed size (take (i + 1) asked) w q zs v p
+followed_more size had asked i x w u v q s p ys zs r l is h one same n =
     let more : take (i + 1) asked ≡ take i asked ++ x ∷ [] = take_more asked i x l ∙ ap (λ (z : Asking). take i asked ++ z ∷ []) (sym is) in
     let c = one.what in
     let list = h.list in
     let at = h.leads in
     let told : Reports (event instruction c (after_all list w)) r = subst (λ (z : Desk). Reports (event instruction c z) r) (sym at) one.tells in
-    subst (λ (z : List Asking). Followed z w zs v) (sym more)
+    let room : AskedAs (size - length (with_all_added list w q)) x c = subst (λ (z : List Record). AskedAs (size - length z) x c) (sym h.adds) (subst (λ (z : ℕ). AskedAs (z - length s) x c) same one.each) in
+    subst (λ (z : List Asking). Followed size z w q zs v p) (sym more)
     (record {
       list = list ++ c ∷ [];
-      each = asked_more (take i asked) list x c h.each one.each;
+      each = asked_more size (take i asked) list x c w q h.each room;
       leads = after_more list c w ∙ (ap (λ (z : Desk). after instruction c z) at ∙ one.leads);
+      adds = added_more list c w q ∙ (ap (λ (z : Desk). with_added c z (with_all_added list w q)) at ∙ (ap (with_added c u) h.adds ∙ one.adds));
       tells =
           subst (λ (z : Course). Tells z zs) (sym (course_more list c w))
           (tells_more (course instruction list w) (event instruction c (after_all list w)) (after instruction c (after_all list w)).core r ys zs (ends_interrupted ys) refl h.tells told n);
     })
 
 -- ── What a history reaches ──
-reached_one : {m : Store} {b : Bus} (c : Call) (w v : Desk) → Performs c w v → Reached instruction m b w → Reached instruction m b v
-reached_one {m} {b} (TurnKey n) w v h r = subst (Reached instruction m b) h (called (Act.turn_key n) r)
-reached_one {m} {b} Initialise w v h r = subst (Reached instruction m b) h (called Act.initialise r)
-reached_one {m} {b} (Examine a) w v h r = subst (Reached instruction m b) h (called (Act.examine a) r)
-reached_one {m} {b} (Deposit a x) w v h r = subst (Reached instruction m b) h (called (Act.deposit a x) r)
-reached_one {m} {b} (Set i x) w v h r = subst (Reached instruction m b) h (called (Act.set_item i x) r)
-reached_one {m} {b} (Show i) w v h r = subst (Reached instruction m b) h (called (Act.show_item i) r)
-reached_one {m} {b} Step w v h r = subst (Reached instruction m b) h.2 (called (Act.step h.0 h.1) r)
-reached_one (Run count) w v h r = by_run h.0 count h.1 h.3 h.2 r h.4
-reached_one (Play tape) w v h r = by_tape h.0 tape.now h.1 h.3 h.2 r h.4
+reached_one : {m : Store} {b : Bus} (size : ℕ) (c : Call) (w v : Desk) (q p : List Record) → Performs size c w q v p → Reached instruction m b w → Reached instruction m b v
+reached_one {m} {b} size (TurnKey n) w v q p h r = subst (Reached instruction m b) h.0 (called (Act.turn_key n) r)
+reached_one {m} {b} size Initialise w v q p h r = subst (Reached instruction m b) h.0 (called Act.initialise r)
+reached_one {m} {b} size (Examine a) w v q p h r = subst (Reached instruction m b) h.0 (called (Act.examine a) r)
+reached_one {m} {b} size (Deposit a x) w v q p h r = subst (Reached instruction m b) h.0 (called (Act.deposit a x) r)
+reached_one {m} {b} size (Set i x) w v q p h r = subst (Reached instruction m b) h.0 (called (Act.set_item i x) r)
+reached_one {m} {b} size (Show i) w v q p h r = subst (Reached instruction m b) h.0 (called (Act.show_item i) r)
+reached_one {m} {b} size Step w v q p h r = subst (Reached instruction m b) (ap desk_in h.2) (called (Act.step (size - length q) h.0) r)
+reached_one size (Run count) w v q p h r = by_run size count q p h.0 r h.1
+reached_one size (Play tape) w v q p h r = by_tape size tape.now q p h.0 r h.1
 
-reached_all : {m : Store} {b : Bus} (cs : List Call) (w v : Desk) → PerformsAll cs w v → Reached instruction m b w → Reached instruction m b v
+reached_all : {m : Store} {b : Bus} (size : ℕ) (cs : List Call) (w v : Desk) (q p : List Record) → PerformsAll size cs w q v p → Reached instruction m b w → Reached instruction m b v
 unfolding PerformsAll
-reached_all {m} {b} [] w v h r = subst (Reached instruction m b) (sym h) r
-reached_all (c ∷ cs) w v h r = reached_all cs h.0 v h.2 (reached_one c w h.0 h.1 r)
+reached_all {m} {b} size [] w v q p h r = subst (Reached instruction m b) (sym h.0) r
+reached_all size (c ∷ cs) w v q p h r = reached_all size cs h.0 v h.1 p h.3 (reached_one size c w h.0 q h.1 h.2 r)
 
 -- ── Two machines ──
 pub compared :
-    {m n : Store} {b d : Bus} {past other : List Call} {asked wanted : List Asking} {ys zs : List StepAnswer} →
-    Gone m b past asked ys → Gone n d other wanted zs → Compared m n b d past other asked wanted ys zs
-compared {m} {n} {b} {d} {past} {other} one two = record {
+    {m n : Store} {b d : Bus} {size room : ℕ} {past other : List Call} {asked wanted : List Asking} {ys zs : List StepAnswer} →
+    Gone m b size past asked ys → Gone n d room other wanted zs → Compared m n b d size room past other asked wanted ys zs
+compared {m} {n} {b} {d} {size} {room} {past} {other} one two = record {
   one = one;
   two = two;
-  isolated = λ alike. isolation instruction m n b d one.start two.start (reached_all past (made m b) one.start one.pasts new) (reached_all other (made n d) two.start two.pasts new) alike one.followed.list two.followed.list;
+  isolated = λ alike. isolation instruction m n b d one.start two.start (reached_all size past (made m b) one.start [] one.trace one.pasts new) (reached_all room other (made n d) two.start [] two.trace two.pasts new) alike one.followed.list two.followed.list;
 }

@@ -1,4 +1,4 @@
--- Histories and lists of calls, as the code performs them.
+-- Histories and lists of calls, as the code performs them. Each is told with the trace: q before, p after, of capacity cap.
 use Rattle.std.specs.Prelude.{◌≡◌, ℕ, Bool, true, false, List, [], ◌∷◌, ◌++◌, map, length, ◌-◌, slice_get, Some, None, Option}
 use Rattle.model.specs.declared.Record.{Record}
 use Rattle.model.specs.declared.StepAnswer.{StepAnswer}
@@ -6,12 +6,12 @@ use Rattle.model.specs.declared.StepAnswer.TheVariants.{Done, Waiting, Interrupt
 use Rattle.model.specs.Stores.{Store}
 use Rattle.model.specs.Buses.{Bus}
 use Rattle.model.specs.Answers.{Answer, stepped}
-use Rattle.model.specs.Console.{Desk, Act, made, call}
+use Rattle.model.specs.Console.{Desk, Act, made, call, told, tell, onto}
 use Rattle.model.specs.Runs.{Runs}
 use Rattle.model.specs.Tapes.{Plays}
 use Rattle.instructions.specs.Instructions.{instruction}
 use Rattle.model.specs.Windows.{LookAlike}
-use Rattle.model.specs.Calls.{Continued, key, examine, deposit, show, step, Event, unseen, answered, interrupted, Course, quiet, broken, after, event, course}
+use Rattle.model.specs.Calls.{Continued, key, examine, deposit, show, step, Event, unseen, answered, interrupted, Course, quiet, broken, did, after, event, course}
 use Rattle.model.specs.Isolation.{Allowed, Isolated}
 use Rattle.comparison.specs.declared.calls.Call.{Call}
 use Rattle.comparison.specs.declared.calls.Call.TheVariants.{TurnKey, Initialise, Examine, Deposit, Set, Show, Step, Run, Play}
@@ -19,40 +19,49 @@ use Rattle.comparison.specs.declared.calls.Continued.{Continued as Asking}
 use Rattle.comparison.specs.declared.calls.Continued.TheVariants.{TurnKey as ask_key, Examine as ask_examine, Deposit as ask_deposit, Show as ask_show, Step as ask_step}
 
 -- ── Histories ──
--- A call of a history, by the definitions of the calls: a step finds some room in a trace, a run and a tape some trace.
-abbrev pub Called : Act → Desk → Desk → Type 0
-Called c w v = (call instruction c w).after ≡ v
+-- A call of a history that is no step, run or tape: the trace stays.
+abbrev pub Called : Act → Desk → List Record → Desk → List Record → Type 0
+Called c w q v p = ((call instruction c w).after ≡ v) × (p ≡ q)
 
-abbrev pub Performs : Call → Desk → Desk → Type 0
-Performs (TurnKey n) w v = Called (Act.turn_key n) w v
-Performs Initialise w v = Called Act.initialise w v
-Performs (Examine a) w v = Called (Act.examine a) w v
-Performs (Deposit a x) w v = Called (Act.deposit a x) w v
-Performs (Set i x) w v = Called (Act.set_item i x) w v
-Performs (Show i) w v = Called (Act.show_item i) w v
-Performs Step w v = (room : ℕ) × (reply : Bus) × Called (Act.step room reply) w v
-Performs (Run count) w v = (cap : ℕ) × (q : List Record) × (a : Answer) × (p : List Record) × Runs instruction cap count w q a v p
-Performs (Play tape) w v = (cap : ℕ) × (q : List Record) × (a : Answer) × (p : List Record) × Plays instruction cap tape.now w q a v p
+-- A call of a history, by the definitions of the calls, whatever it answers; a device that a step touches shows some reply.
+abbrev pub Performs : ℕ → Call → Desk → List Record → Desk → List Record → Type 0
+Performs cap (TurnKey n) w q v p = Called (Act.turn_key n) w q v p
+Performs cap Initialise w q v p = Called Act.initialise w q v p
+Performs cap (Examine a) w q v p = Called (Act.examine a) w q v p
+Performs cap (Deposit a x) w q v p = Called (Act.deposit a x) w q v p
+Performs cap (Set i x) w q v p = Called (Act.set_item i x) w q v p
+Performs cap (Show i) w q v p = Called (Act.show_item i) w q v p
+Performs cap Step w q v p = (reply : Bus) × (a : Answer) × (tell q (call instruction (Act.step (cap - length q) reply) w) ≡ told a v p)
+Performs cap (Run count) w q v p = (a : Answer) × Runs instruction cap count w q a v p
+Performs cap (Play tape) w q v p = (a : Answer) × Plays instruction cap tape.now w q a v p
 
 -- All calls of a list, one after the other.
-unfoldable pub PerformsAll : List Call → Desk → Desk → Type 0
-PerformsAll [] w v = v ≡ w
-PerformsAll (c ∷ cs) w v = (u : Desk) × Performs c w u × PerformsAll cs u v
+unfoldable pub PerformsAll : ℕ → List Call → Desk → List Record → Desk → List Record → Type 0
+PerformsAll cap [] w q v p = (v ≡ w) × (p ≡ q)
+PerformsAll cap (c ∷ cs) w q v p = (u : Desk) × (r : List Record) × Performs cap c w q u r × PerformsAll cap cs u r v p
 
 -- ── Lists that follow ──
--- A call that is asked, as it happens: a step finds some room in the trace and some reply.
-abbrev pub AskedAs : Asking → Continued → Type 0
-AskedAs (ask_key n) c = c ≡ key n
-AskedAs (ask_examine a) c = c ≡ examine a
-AskedAs (ask_deposit a v) c = c ≡ deposit a v
-AskedAs (ask_show i) c = c ≡ show i
-AskedAs ask_step c = (room : ℕ) × (reply : Bus) × (c ≡ step room reply)
+-- A call that is asked, as it happens: a step finds the room that the trace has, and some reply.
+abbrev pub AskedAs : ℕ → Asking → Continued → Type 0
+AskedAs room (ask_key n) c = c ≡ key n
+AskedAs room (ask_examine a) c = c ≡ examine a
+AskedAs room (ask_deposit a v) c = c ≡ deposit a v
+AskedAs room (ask_show i) c = c ≡ show i
+AskedAs room ask_step c = (reply : Bus) × (c ≡ step room reply)
 
-abbrev pub AllAsked : List Asking → List Continued → Type 0
-AllAsked [] [] = Unit {0}
-AllAsked [] (c ∷ l) = ⊥
-AllAsked (a ∷ more) [] = ⊥
-AllAsked (a ∷ more) (c ∷ l) = AskedAs a c × AllAsked more l
+-- The trace after a call, and after all calls of a list.
+abbrev pub with_added : Continued → Desk → List Record → List Record
+with_added c w q = onto q (did instruction c w).added
+
+abbrev pub with_all_added : List Continued → Desk → List Record → List Record
+with_all_added [] w q = q
+with_all_added (c ∷ l) w q = with_all_added l (after instruction c w) (with_added c w q)
+
+abbrev pub AllAsked : ℕ → List Asking → List Continued → Desk → List Record → Type 0
+AllAsked cap [] [] w q = Unit {0}
+AllAsked cap [] (c ∷ l) w q = ⊥
+AllAsked cap (a ∷ more) [] w q = ⊥
+AllAsked cap (a ∷ more) (c ∷ l) w q = AskedAs (cap - length q) a c × AllAsked cap more l (after instruction c w) (with_added c w q)
 
 -- What a call tells of the program: nothing, or the answer of an accepted step, which may be an interrupt's.
 abbrev pub is_interrupt : StepAnswer → Bool
@@ -66,10 +75,11 @@ Reports (answered a) r = (s : StepAnswer) × (a ≡ stepped s) × (r ≡ Some s)
 Reports (interrupted a k) r = (s : StepAnswer) × (a ≡ stepped s) × (r ≡ Some s) × (is_interrupt s ≡ true)
 
 -- One call that is asked, made on the machine w, leads to v and tells r.
-pub record FollowedOne (asking : Asking) (w : Desk) (r : Option StepAnswer) (v : Desk) : Type 0 where
+pub record FollowedOne (cap : ℕ) (asking : Asking) (w : Desk) (q : List Record) (r : Option StepAnswer) (v : Desk) (p : List Record) : Type 0 where
   pub what : Continued
-  pub each : AskedAs asking what
+  pub each : AskedAs (cap - length q) asking what
   pub leads : after instruction what w ≡ v
+  pub adds : with_added what w q ≡ p
   pub tells : Reports (event instruction what w) r
 
 -- Whether the last answer, where there is one, is an interrupt's.
@@ -97,24 +107,27 @@ Tells (quiet xs s) ys = (xs ≡ map stepped ys) × (ends_interrupted ys ≡ fals
 Tells (broken xs r s) ys = (xs ≡ map stepped ys) × (ends_interrupted ys ≡ true)
 
 -- The calls asked, made on the machine w, lead to v, and are answered so.
-pub record Followed (asked : List Asking) (w : Desk) (ys : List StepAnswer) (v : Desk) : Type 0 where
+pub record Followed (cap : ℕ) (asked : List Asking) (w : Desk) (q : List Record) (ys : List StepAnswer) (v : Desk) (p : List Record) : Type 0 where
   pub list : List Continued
-  pub each : AllAsked asked list
+  pub each : AllAsked cap asked list w q
   pub leads : after_all list w ≡ v
+  pub adds : with_all_added list w q ≡ p
   pub tells : Tells (course instruction list w) ys
 
 -- ── Two machines ──
--- A machine is made, has its history, and then its list, which is answered so.
-pub record Gone (m : Store) (b : Bus) (past : List Call) (asked : List Asking) (ys : List StepAnswer) : Type 0 where
+-- A machine is made, with an empty trace of capacity cap, has its history, and then its list, which is answered so.
+pub record Gone (m : Store) (b : Bus) (cap : ℕ) (past : List Call) (asked : List Asking) (ys : List StepAnswer) : Type 0 where
   pub start : Desk
-  pub pasts : PerformsAll past (made m b) start
+  pub trace : List Record
+  pub pasts : PerformsAll cap past (made m b) [] start trace
   pub finish : Desk
-  pub followed : Followed asked start ys finish
+  pub last : List Record
+  pub followed : Followed cap asked start trace ys finish last
 
 -- Two machines go so; and the lists are isolated if the two look alike at their start.
-pub record Compared (m n : Store) (b d : Bus) (past other : List Call) (asked wanted : List Asking) (ys zs : List StepAnswer) : Type 0 where
-  pub one : Gone m b past asked ys
-  pub two : Gone n d other wanted zs
+pub record Compared (m n : Store) (b d : Bus) (cap room : ℕ) (past other : List Call) (asked wanted : List Asking) (ys zs : List StepAnswer) : Type 0 where
+  pub one : Gone m b cap past asked ys
+  pub two : Gone n d room other wanted zs
   pub isolated :
       LookAlike one.start.core two.start.core → Allowed instruction one.start one.followed.list → Allowed instruction two.start two.followed.list →
       Isolated instruction one.start two.start one.followed.list two.followed.list

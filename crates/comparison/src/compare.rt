@@ -1,4 +1,4 @@
-ghost use Rattle.std.specs.Prelude.{IfOk};
+ghost use Rattle.std.specs.Prelude.{IfOk, length};
 ghost use Rattle.model.specs.Isolation.{Isolation};
 ghost use Rattle.comparison.specs.Lists.{Gone, Compared};
 
@@ -26,7 +26,7 @@ fn go_through<S: Store + Drop, B: Bus + Drop>(
     side: Side<'_, S, B>,
     slots: &mut [Record],
 ) -> Result<Answered, AllocError>
-    ensures { IfOk result (λ a. Gone (S.Store.meaning side.entry.store) (B.Bus.devices side.entry.bus) side.entry.past.now side.entry.list.now a.answers.items) }
+    ensures { IfOk result (λ a. Gone (S.Store.meaning side.entry.store) (B.Bus.devices side.entry.bus) (length slots.old) side.entry.past.now side.entry.list.now a.answers.items) }
 {
     let mut trace = Queue::new(slots);
     let mut machine = Machine::make(side.store, side.bus);
@@ -46,7 +46,7 @@ pub fn compare<S: Store + Drop, B: Bus + Drop, U: Store + Drop, D: Bus + Drop>(
     other_slots: &mut [Record],
 ) -> Result<Comparison, AllocError>
     ensures law { Isolation }
-    ensures runs { IfOk result (λ p. Compared (S.Store.meaning one.entry.store) (U.Store.meaning other.entry.store) (B.Bus.devices one.entry.bus) (D.Bus.devices other.entry.bus) one.entry.past.now other.entry.past.now one.entry.list.now other.entry.list.now p.one.answers.items p.other.answers.items) }
+    ensures runs { IfOk result (λ p. Compared (S.Store.meaning one.entry.store) (U.Store.meaning other.entry.store) (B.Bus.devices one.entry.bus) (D.Bus.devices other.entry.bus) (length slots.old) (length other_slots.old) one.entry.past.now other.entry.past.now one.entry.list.now other.entry.list.now p.one.answers.items p.other.answers.items) }
 {
     Ok(Comparison {
         one: go_through(heap, one, slots)?,

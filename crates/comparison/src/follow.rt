@@ -1,5 +1,5 @@
 ghost use Rattle.std.specs.Prelude.{IfOk};
-ghost use Rattle.queue.specs.Rows.{SameSlots};
+ghost use Rattle.queue.specs.Rows.{queued, capacity, SameSlots};
 ghost use Rattle.console.specs.View.{desk_of};
 ghost use Rattle.comparison.specs.Lists.{FollowedOne, Followed};
 
@@ -19,7 +19,7 @@ fn follow_one<S: Store, B: Bus>(
     asking: Continued,
     trace: &mut Queue<'_, Record>,
 ) -> Option<StepAnswer>
-    ensures does { FollowedOne asking (desk_of S.Store.meaning B.Bus.devices machine.old) result (desk_of S.Store.meaning B.Bus.devices machine.new) }
+    ensures does { FollowedOne (capacity trace.old) asking (desk_of S.Store.meaning B.Bus.devices machine.old) (queued trace.old) result (desk_of S.Store.meaning B.Bus.devices machine.new) (queued trace.new) }
     ensures same { SameSlots trace.old trace.new }
 {
     match asking {
@@ -50,7 +50,7 @@ pub(crate) fn follow<S: Store, B: Bus>(
     trace: &mut Queue<'_, Record>,
     heap: Global,
 ) -> Result<Answered, AllocError>
-    ensures does { IfOk result (λ a. Followed asked.now (desk_of S.Store.meaning B.Bus.devices machine.old) a.answers.items (desk_of S.Store.meaning B.Bus.devices machine.new)) }
+    ensures does { IfOk result (λ a. Followed (capacity trace.old) asked.now (desk_of S.Store.meaning B.Bus.devices machine.old) (queued trace.old) a.answers.items (desk_of S.Store.meaning B.Bus.devices machine.new) (queued trace.new)) }
     ensures same { SameSlots trace.old trace.new }
 {
     let mut answered = Answered {

@@ -1,4 +1,4 @@
-ghost use Rattle.queue.specs.Rows.{SameSlots};
+ghost use Rattle.queue.specs.Rows.{queued, capacity, SameSlots};
 ghost use Rattle.console.specs.View.{desk_of};
 ghost use Rattle.comparison.specs.Lists.{Performs, PerformsAll};
 
@@ -15,7 +15,7 @@ fn perform<S: Store, B: Bus>(
     call: Call<'_>,
     trace: &mut Queue<'_, Record>,
 )
-    ensures does { Performs call.entry (desk_of S.Store.meaning B.Bus.devices machine.old) (desk_of S.Store.meaning B.Bus.devices machine.new) }
+    ensures does { Performs (capacity trace.old) call.entry (desk_of S.Store.meaning B.Bus.devices machine.old) (queued trace.old) (desk_of S.Store.meaning B.Bus.devices machine.new) (queued trace.new) }
     ensures same { SameSlots trace.old trace.new }
 {
     match call {
@@ -55,7 +55,7 @@ pub(crate) fn perform_all<S: Store, B: Bus>(
     calls: &[Call<'_>],
     trace: &mut Queue<'_, Record>,
 )
-    ensures does { PerformsAll calls.now (desk_of S.Store.meaning B.Bus.devices machine.old) (desk_of S.Store.meaning B.Bus.devices machine.new) }
+    ensures does { PerformsAll (capacity trace.old) calls.now (desk_of S.Store.meaning B.Bus.devices machine.old) (queued trace.old) (desk_of S.Store.meaning B.Bus.devices machine.new) (queued trace.new) }
     ensures same { SameSlots trace.old trace.new }
 {
     for call in calls {
