@@ -1,6 +1,6 @@
 ghost use Rattle.std.specs.Prelude.{◌≡◌, ◌-◌, ◌/◌, true, replicate};
 ghost use Rattle.std.specs.Bool.{then_some};
-ghost use Rattle.buses.specs.Devices.{new_drive, drive_read, drive_written, drive_commanded, is_drive, drive_bus, position_of, drive_changed};
+ghost use Rattle.buses.specs.Devices.{new_drive, drive_read, drive_written, drive_commanded, is_drive, drive_bus, position_of, usage_of, drive_changed};
 ghost use Rattle.bus.specs.Devices.{Reads, Writes, Commands};
 
 use crate::usage::Usage;
@@ -90,6 +90,13 @@ impl Drives {
         ensures { result ≡ position_of self.now.drives device }
     {
         place(device).map(|at| self.drives[at].position)
+    }
+
+    /// How a drive was used, if the device is one.
+    pub fn usage(&self, device: u8) -> Option<Usage>
+        ensures { result ≡ usage_of self.now.drives device }
+    {
+        place(device).map(|at| self.drives[at].usage)
     }
 }
 

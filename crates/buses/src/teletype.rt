@@ -1,4 +1,4 @@
-ghost use Rattle.std.specs.Prelude.{◌≡◌, true};
+ghost use Rattle.std.specs.Prelude.{◌≡◌, true, length};
 ghost use Rattle.queue.specs.Rows.{queued, SameSlots};
 ghost use Rattle.bus.specs.Devices.{Reads, Writes, Commands};
 ghost use Rattle.buses.specs.Devices.{unused, once_read, oldest, rest, teletype};
@@ -39,6 +39,20 @@ impl<'a> Teletype<'a> {
         ensures lent { result.slots.ghost_name ≡ self.entry.waiting.slots.ghost_name }
     {
         self.waiting
+    }
+
+    /// How the teletype was used.
+    pub fn usage(&self) -> Usage
+        ensures { result ≡ self.now.usage }
+    {
+        self.usage
+    }
+
+    /// How many bytes wait.
+    pub fn waiting(&self) -> usize
+        ensures { result ≡ length (queued self.now.waiting) }
+    {
+        self.waiting.len()
     }
 
     /// Takes the oldest byte, or gives 0; the read is counted.

@@ -2,13 +2,13 @@ ghost use Rattle.std.specs.Prelude.{◌≡◌};
 ghost use Rattle.buses.specs.Devices.{unused, once_read, once_written, once_commanded};
 
 /// The use of a device: its latest data and command, and how often it was read, written and commanded, modulo 2^32.
-#[derive(Clone, Copy)]
+#[derive(Clone, Copy, Debug, PartialEq, Eq)]
 pub struct Usage {
-    pub(crate) latest: u8,
-    pub(crate) command: u8,
-    pub(crate) reads: u32,
-    pub(crate) writes: u32,
-    pub(crate) commands: u32,
+    pub latest: u8,
+    pub command: u8,
+    pub reads: u32,
+    pub writes: u32,
+    pub commands: u32,
 }
 
 impl Usage {

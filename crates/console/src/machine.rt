@@ -133,6 +133,13 @@ impl<S: Store, B: Bus> Machine<S, B> {
         self.core.faults()
     }
 
+    /// The bus, so that what its devices show and count can be looked at: a question, at any key position, that changes nothing.
+    pub fn bus(&self) -> &B
+        ensures { result.now ≡ self.now.core.bus }
+    {
+        self.core.bus()
+    }
+
     // u8, not Position: the number is what was promised, and callers print it.
     /// The position of the key: a question that changes nothing.
     pub fn key_position(&self) -> u8

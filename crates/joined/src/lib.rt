@@ -24,6 +24,20 @@ impl<A, B> JoinedBus<A, B> {
         JoinedBus { first, second }
     }
 
+    /// The first bus.
+    pub fn first(&self) -> &A
+        ensures { result.now ≡ self.now.first }
+    {
+        &self.first
+    }
+
+    /// The second bus.
+    pub fn second(&self) -> &B
+        ensures { result.now ≡ self.now.second }
+    {
+        &self.second
+    }
+
     /// The two buses as they are now.
     pub fn into_parts(self) -> (A, B)
         ensures before { result.0 ≡ self.first }

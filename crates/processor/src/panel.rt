@@ -72,6 +72,13 @@ impl<S: Store, B: Bus> Core<S, B> {
         self.controller.put_segment(number, word);
     }
 
+    /// The bus.
+    pub fn bus(&self) -> &B
+        ensures { result.now ≡ self.now.bus }
+    {
+        &self.bus
+    }
+
     /// The interrupt status.
     pub fn faults(&self) -> u32
         ensures { result ≡ self.now.controller.faults }
