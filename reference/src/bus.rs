@@ -4,6 +4,8 @@
 //! writes or commands such a device.
 
 use crate::queue::Queue;
+use std::cell::RefCell;
+use std::rc::Rc;
 
 /// What a device remembers of the traffic with it.
 #[derive(Clone, Copy, Debug, Default, PartialEq, Eq)]
@@ -317,5 +319,44 @@ impl<A: Bus, B: Bus> Bus for Joined<A, B> {
 
     fn command(&mut self, device: u8, byte: u8) {
         self.owner_mut(device).command(device, byte);
+    }
+}
+
+/// A bus that its maker keeps a hold of, to look at it after a machine has used it.
+impl<B: Bus> Bus for Rc<RefCell<B>> {
+    fn answers(&self, device: u8) -> bool {
+        self.borrow().answers(device)
+    }
+
+    fn status(&self, device: u8) -> u8 {
+        self.borrow().status(device)
+    }
+
+    fn offer(&self, device: u8) -> u8 {
+        self.borrow().offer(device)
+    }
+
+    fn requests(&self, device: u8) -> bool {
+        self.borrow().requests(device)
+    }
+
+    fn tally(&self, device: u8) -> Tally {
+        self.borrow().tally(device)
+    }
+
+    fn read(&mut self, device: u8) -> u8 {
+        self.borrow_mut().read(device)
+    }
+
+    fn write(&mut self, device: u8, byte: u8) {
+        self.borrow_mut().write(device, byte);
+    }
+
+    fn command(&mut self, device: u8, byte: u8) {
+        self.borrow_mut().command(device, byte);
+    }
+
+    fn requesting(&self) -> Option<u8> {
+        self.borrow().requesting()
     }
 }

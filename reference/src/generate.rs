@@ -1,7 +1,8 @@
 //! Tapes for a comparison of emulators, and the outcome that this emulator expects of each.
 //!
-//! Every tape is for the same new machine: core boards of 32,768 zero halfwords, the silent bus,
-//! key ON, and a trace of 64 places. The tapes are the same in every run.
+//! Every tape is for a new machine: core boards of 32,768 zero halfwords, key ON, and a trace of 64
+//! places. Most are for the silent bus; the others are for a teletype, with bytes that wait, joined
+//! with the drives. The tapes are the same in every run.
 //!
 //! # The line of an outcome
 //!
@@ -19,6 +20,11 @@
 //! | 7 | interrupt status, 2 digits |
 //! | 8 | the trace: the number of records, 2 digits; then for each record, the oldest first, the cause, 1 digit, the status, 8, the Location Counter, 5, and the interrupt status, 2: 16 digits |
 //! | 9 | digest of the store, 16 digits |
+//! | 10 | over devices only: the use of the teletype, 28 digits, and the number of bytes that wait, 4 |
+//! | 11 | over devices only: for each drive its use, 28 digits, and its position, 4; 256 digits together |
+//!
+//! The use of a device is its latest data, 2 digits, its latest command, 2, its reads, writes and
+//! commands, 8 each.
 //!
 //! The digest of the store is the 64-bit FNV-1a digest of its 65,536 bytes: the halfwords in order
 //! of place, the high byte first. It starts as X'CBF29CE484222325'; each byte is put in by
@@ -37,13 +43,15 @@ pub mod directed;
 pub mod random;
 pub mod writer;
 
-use crate::bus::Silent;
+use crate::bus::{Bus, Drives, Joined, Silent, Tally, Teletype};
 use crate::interrupt::Record;
 use crate::machine::Machine;
 use crate::queue::Queue;
 use crate::store::Store;
 use crate::tape::TapeFault;
+use std::cell::RefCell;
 use std::fmt;
+use std::rc::Rc;
 
 /// The places of the machine's store.
 pub const PLACES: usize = 32_768;
@@ -69,9 +77,40 @@ pub struct Outcome {
     pub store_digest: u64,
 }
 
-/// Plays a tape on a new machine.
+/// Everything that can be seen of the devices after a tape.
+#[derive(Clone, Debug, PartialEq, Eq)]
+pub struct DevicesSeen {
+    pub teletype: Tally,
+    pub waiting: usize,
+    /// The use of each drive, and its position.
+    pub drives: [(Tally, u16); 8],
+}
+
+/// A tape with the bus of the machine that is to play it.
+#[derive(Clone, Debug, PartialEq, Eq)]
+pub struct Trial {
+    /// The bytes that wait for the teletype; None is for the silent bus.
+    pub keys: Option<Vec<u8>>,
+    pub tape: Vec<u8>,
+}
+
+/// Plays a tape on a new machine with the silent bus.
 pub fn expected(tape: &[u8]) -> Outcome {
-    let mut machine = Machine::make(Store::zeros(PLACES), Silent);
+    play(tape, Silent)
+}
+
+/// Plays a tape on a new machine with a teletype, for which the bytes wait, and the drives.
+pub fn expected_over_devices(keys: &[u8], tape: &[u8]) -> (Outcome, DevicesSeen) {
+    let bus = Joined::new(Teletype::with_bytes(keys), Drives::default());
+    let bus = Rc::new(RefCell::new(bus));
+    let outcome = play(tape, Rc::clone(&bus));
+    let bus = bus.borrow();
+    (outcome, DevicesSeen::of(&bus.first, &bus.second))
+}
+
+/// Plays a tape on a new machine with a bus.
+fn play(tape: &[u8], bus: impl Bus + 'static) -> Outcome {
+    let mut machine = Machine::make(Store::zeros(PLACES), bus);
     let mut trace = Queue::new(TRACE_PLACES);
     let ending = machine.play(tape, &mut trace);
     let Store::CoreBoards(halfwords) = &machine.store else {
@@ -89,10 +128,88 @@ pub fn expected(tape: &[u8]) -> Outcome {
     }
 }
 
-/// All directed tapes, then `count` random ones.
+/// All directed tapes, then `count` random ones, for the silent bus.
 pub fn tapes(count: u64) -> impl Iterator<Item = Vec<u8>> {
     let random = (0..count).map(random::tape);
     directed::tapes().into_iter().chain(random)
+}
+
+/// All directed tapes for devices, then `count` random ones.
+pub fn device_trials(count: u64) -> impl Iterator<Item = Trial> {
+    let random = (0..count).map(random::devices::trial);
+    directed::trials().into_iter().chain(random)
+}
+
+/// The tapes for the silent bus, `count` of them random, then those for devices, a quarter as many
+/// of them random.
+pub fn trials(count: u64) -> impl Iterator<Item = Trial> {
+    tapes(count)
+        .map(|tape| Trial { keys: None, tape })
+        .chain(device_trials(count / 4))
+}
+
+impl Trial {
+    /// The line that is expected.
+    pub fn line(&self) -> String {
+        match &self.keys {
+            None => expected(&self.tape).line(),
+            Some(keys) => {
+                let (outcome, devices) = expected_over_devices(keys, &self.tape);
+                format!("{outcome} {devices}")
+            }
+        }
+    }
+
+    /// As the other emulator takes it: for the silent bus an `S` and the tape, for devices a `D`,
+    /// the bytes that wait, and the tape. The bytes and the tape stand behind their length, 4
+    /// bytes, the more significant first.
+    pub fn bytes(&self) -> Vec<u8> {
+        match &self.keys {
+            None => [b"S".to_vec(), behind_length(&self.tape)].concat(),
+            Some(keys) => {
+                let (keys, tape) = (behind_length(keys), behind_length(&self.tape));
+                [b"D".to_vec(), keys, tape].concat()
+            }
+        }
+    }
+}
+
+/// Bytes behind their length.
+fn behind_length(bytes: &[u8]) -> Vec<u8> {
+    let length = bytes.len() as u32;
+    [&length.to_be_bytes(), bytes].concat()
+}
+
+impl DevicesSeen {
+    fn of(teletype: &Teletype, drives: &Drives) -> DevicesSeen {
+        DevicesSeen {
+            teletype: teletype.tally,
+            waiting: teletype.queue.len(),
+            drives: drives.drives.map(|drive| (drive.tally, drive.position)),
+        }
+    }
+}
+
+impl fmt::Display for DevicesSeen {
+    fn fmt(&self, text: &mut fmt::Formatter) -> fmt::Result {
+        write_tally(text, &self.teletype)?;
+        write!(text, "{:04X} ", self.waiting)?;
+        self.drives.iter().try_for_each(|(tally, position)| {
+            write_tally(text, tally)?;
+            write!(text, "{position:04X}")
+        })
+    }
+}
+
+fn write_tally(text: &mut fmt::Formatter, tally: &Tally) -> fmt::Result {
+    write!(
+        text,
+        "{:02X}{:02X}",
+        tally.latest_data, tally.latest_command
+    )?;
+    [tally.reads, tally.writes, tally.commands]
+        .iter()
+        .try_for_each(|count| write!(text, "{count:08X}"))
 }
 
 impl Outcome {
@@ -293,5 +410,107 @@ mod tests {
             assert!(interrupt_statuses.contains(&bit), "{bit:02X}");
         }
         assert_eq!(fullest, TRACE_PLACES);
+    }
+
+    #[test]
+    fn the_lines_of_devices_that_were_not_used() {
+        let keys = Some(b"abc".to_vec());
+        let trial = Trial { keys, tape: vec![] };
+        let silent = expected(b"").line();
+        let unused = "0".repeat(28);
+        let drives = "0".repeat(8 * 32);
+        assert_eq!(trial.line(), format!("{silent} {unused}0003 {drives}"));
+        assert_eq!(trial.bytes(), b"D\0\0\0\x03abc\0\0\0\0");
+    }
+
+    #[test]
+    fn trials_of_the_silent_bus_are_its_tapes() {
+        let trial = Trial {
+            keys: None,
+            tape: b"G\0\0\x01".to_vec(),
+        };
+        assert_eq!(trial.line(), expected(&trial.tape).line());
+        assert_eq!(trial.bytes(), b"S\0\0\0\x04G\0\0\x01");
+    }
+
+    #[test]
+    fn device_trials_are_the_same_every_time_and_many() {
+        let first: Vec<Trial> = device_trials(1000).collect();
+        assert!(first.len() >= 3000, "{}", first.len());
+        assert!(first.iter().all(|trial| trial.tape.len() <= LONGEST_TAPE));
+        assert!(first
+            .iter()
+            .eq(device_trials(1000).collect::<Vec<_>>().iter()));
+    }
+
+    /// What is to be seen of devices after all trials together.
+    #[derive(Default)]
+    struct Reached {
+        causes: BTreeSet<u8>,
+        requests: usize,
+        most_keys_taken: usize,
+        positions: BTreeSet<usize>,
+        uses: BTreeSet<(usize, &'static str)>,
+        latest_commands: BTreeSet<u8>,
+    }
+
+    impl Reached {
+        fn by(trials: impl Iterator<Item = Trial>) -> Reached {
+            let mut reached = Reached::default();
+            for trial in trials {
+                let keys = trial.keys.unwrap_or_default();
+                let (outcome, devices) = expected_over_devices(&keys, &trial.tape);
+                reached.take_trace(&outcome.trace);
+                reached.take_devices(keys.len(), &devices);
+            }
+            reached
+        }
+
+        fn take_trace(&mut self, trace: &[Record]) {
+            let causes = trace.iter().map(|record| record.cause.number() as u8);
+            self.requests += causes.clone().filter(|&cause| cause == 6).count();
+            self.causes.extend(causes);
+        }
+
+        fn take_devices(&mut self, keys: usize, devices: &DevicesSeen) {
+            self.most_keys_taken = self.most_keys_taken.max(keys - devices.waiting);
+            self.latest_commands
+                .insert(devices.teletype.latest_command >> 6);
+            self.take_uses(2, &devices.teletype);
+            for (number, (tally, position)) in (16..).zip(&devices.drives) {
+                self.take_uses(number, tally);
+                if *position != 0 {
+                    self.positions.insert(number);
+                }
+            }
+        }
+
+        fn take_uses(&mut self, device: usize, tally: &Tally) {
+            for (name, count) in [
+                ("reads", tally.reads),
+                ("writes", tally.writes),
+                ("commands", tally.commands),
+            ] {
+                if count != 0 {
+                    self.uses.insert((device, name));
+                }
+            }
+        }
+
+        fn check(&self) {
+            assert!(self.causes.contains(&6));
+            assert!(self.requests > 100, "{}", self.requests);
+            assert!(self.most_keys_taken >= 3, "{}", self.most_keys_taken);
+            assert!(self.positions.iter().copied().eq(16..24));
+            assert_eq!(self.uses.len(), 9 * 3);
+            assert!(self.latest_commands.iter().copied().eq(0..4));
+        }
+    }
+
+    /// Both kinds of trials, each alone, use every device in every way.
+    #[test]
+    fn device_trials_reach_every_device_in_every_way() {
+        Reached::by(directed::trials().into_iter()).check();
+        Reached::by((0..1000).map(random::devices::trial)).check();
     }
 }

@@ -1,10 +1,13 @@
 //! Writes tapes, and the outcome that each is to have, for a comparison with another emulator.
 //!
-//! `differential N TAPES LINES` makes the directed tapes and N random ones. To the file TAPES it
-//! writes each tape behind its length, 4 bytes, the more significant first; to the file LINES the
-//! line of its outcome. It prints the number of tapes.
+//! `differential N TAPES LINES` makes the directed tapes and N random ones for the silent bus, and
+//! the directed tapes and a quarter as many random ones for devices. To the file TAPES it writes
+//! each tape: behind an `S` for the silent bus; behind a `D` and the bytes that wait for the
+//! teletype for devices. The bytes and the tape stand each behind their length, 4 bytes, the more
+//! significant first. To the file LINES it writes the line of its outcome. It prints the number of
+//! tapes.
 
-use reference::generate::{expected, tapes};
+use reference::generate::trials;
 use std::fs::File;
 use std::io::{self, BufWriter, Write};
 use std::process::ExitCode;
@@ -38,11 +41,9 @@ fn write_files(count: u64, tapes_file: &str, lines_file: &str) -> io::Result<usi
     let mut tapes_out = BufWriter::new(File::create(tapes_file)?);
     let mut lines_out = BufWriter::new(File::create(lines_file)?);
     let mut written = 0;
-    for tape in tapes(count) {
-        let length = u32::try_from(tape.len()).map_err(io::Error::other)?;
-        tapes_out.write_all(&length.to_be_bytes())?;
-        tapes_out.write_all(&tape)?;
-        writeln!(lines_out, "{}", expected(&tape))?;
+    for trial in trials(count) {
+        tapes_out.write_all(&trial.bytes())?;
+        writeln!(lines_out, "{}", trial.line())?;
         written += 1;
     }
     tapes_out.flush()?;

@@ -1,9 +1,11 @@
-//! Makes the directed tapes and so many random ones, and plays them.
+//! Makes the directed tapes and so many random ones for the silent bus, the directed tapes and a
+//! quarter as many random ones for devices, and plays them.
 //!
 //! `generate N` prints the number of tapes. With `--digest` it prints the digest of all lines too,
-//! with `--lines` every line, with `--tapes` every tape in hexadecimal.
+//! with `--lines` every line, with `--tapes` every tape in hexadecimal, with its kind and the bytes
+//! that wait before it, as differential writes it.
 
-use reference::generate::{expected, tapes, Digest};
+use reference::generate::{trials, Digest};
 use std::io::{self, BufWriter, Write};
 use std::process::ExitCode;
 
@@ -51,13 +53,13 @@ fn answer(request: &Request) -> io::Result<()> {
     let mut output = BufWriter::new(io::stdout().lock());
     let mut digest = Digest::new();
     let mut count = 0;
-    for tape in tapes(request.count) {
+    for trial in trials(request.count) {
         count += 1;
         if request.tapes {
-            writeln!(output, "{}", hexadecimal(&tape))?;
+            writeln!(output, "{}", hexadecimal(&trial.bytes()))?;
         }
         if request.digest || request.lines {
-            let line = expected(&tape).line();
+            let line = trial.line();
             digest.take_line(&line);
             if request.lines {
                 writeln!(output, "{line}")?;

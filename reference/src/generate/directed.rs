@@ -1,14 +1,17 @@
-//! Directed tapes: each sets up one situation, mostly a single instruction, at its edges.
+//! Directed tapes: each sets up one situation, mostly a single instruction, at its edges. Some are
+//! for a bus with devices.
 
 mod accesses;
 mod arithmetic;
 mod controller;
+mod devices;
 mod faults;
 mod instructions;
 mod interrupts;
 mod programs;
 
 use super::writer::{reach, Reaching, Way, Writer};
+use super::Trial;
 use crate::codes::{Code, Form, TABLE};
 
 /// All directed tapes, always in the same order.
@@ -24,8 +27,18 @@ pub fn tapes() -> Vec<Vec<u8>> {
     tapes
 }
 
+/// All directed tapes over devices, always in the same order.
+pub fn trials() -> Vec<Trial> {
+    let mut trials = Vec::new();
+    devices::add(&mut trials);
+    trials
+}
+
 /// Tapes being gathered.
 type Tapes = Vec<Vec<u8>>;
+
+/// The same over devices.
+type Trials = Vec<Trial>;
 
 /// Where the instructions stand, unless the place matters.
 const START: u32 = 0xA00;

@@ -1,6 +1,8 @@
 //! Random tapes: programs of random instructions, random commands, random bytes, and tapes with
 //! damage. Each has a number, and is always the same for the same number.
 
+pub mod devices;
+
 use super::chance::Chance;
 use super::writer::{first, ri1, ri2, rx1, rx2, rx3, Writer};
 use super::LONGEST_TAPE;
@@ -357,10 +359,16 @@ fn bytes(chance: &mut Chance) -> Vec<u8> {
     tape
 }
 
-/// A tape that is cut, or has a byte altered, left out or put in.
+/// A tape with damage.
 fn damaged(chance: &mut Chance) -> Vec<u8> {
     let relocated = chance.percent(50);
     let mut tape = program(chance, relocated);
+    damage(chance, &mut tape);
+    tape
+}
+
+/// Cuts a tape, or alters, leaves out or puts in a byte.
+fn damage(chance: &mut Chance, tape: &mut Vec<u8>) {
     let place = chance.below(tape.len() as u32) as usize;
     match chance.below(4) {
         0 => tape.truncate(place),
@@ -370,5 +378,4 @@ fn damaged(chance: &mut Chance) -> Vec<u8> {
         }
         _ => tape.insert(place, chance.byte()),
     }
-    tape
 }
