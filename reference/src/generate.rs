@@ -467,7 +467,7 @@ mod tests {
         }
 
         fn take_trace(&mut self, trace: &[Record]) {
-            let causes = trace.iter().map(|record| record.cause.number() as u8);
+            let causes = trace.iter().map(|record| record.cause.number());
             self.requests += causes.clone().filter(|&cause| cause == 6).count();
             self.causes.extend(causes);
         }

@@ -16,13 +16,13 @@ there Lower number less = grind (arith, nat_tests, less)
 there Upper number less = grind (arith, nat_tests, less)
 there Segments number less = grind (arith, nat_tests, less)
 
--- one more number, at the end of those that are read
+-- one more value, at the end of those that are read
 pub one_more :
-    (f : ℕ → ℕ) (values : List ℕ) (k v : ℕ) → k < length values → take k values ≡ map f (range_with_len 0 k) → v ≡ f k →
+    {X : Type 0} (f : ℕ → X) (values : List X) (k : ℕ) (v : X) → k < length values → take k values ≡ map f (range_with_len 0 k) → v ≡ f k →
     take (k + 1) (set values k v) ≡ map f (range_with_len 0 (k + 1))
-one_more f values k v less read here =
+one_more {X} f values k v less read here =
     let from : 0 + k ≡ k = omega arith in
     take_more_set values k v less
-    ∙ ap (λ (l : List ℕ). l ++ (v ∷ [])) read
-    ∙ ap (λ (x : ℕ). map f (range_with_len 0 k) ++ (x ∷ [])) here
+    ∙ ap (λ (l : List X). l ++ (v ∷ [])) read
+    ∙ ap (λ (x : X). map f (range_with_len 0 k) ++ (x ∷ [])) here
     ∙ sym (map-range_with_len_more f 0 k k from)

@@ -1,3 +1,5 @@
+pub mod PeripheralTexts
+pub mod Peripherals
 pub mod Digests
 pub mod Outcomes
 pub mod Shown

@@ -47,6 +47,10 @@ shown_text s =
     ++ ((32 ∷ registers_text s.segments)
     ++ (32 ∷ hex 2 s.interrupt_status)))))
 
+-- The fields of the line of an outcome.
+abbrev pub fields_text : Result ℕ TapeFault → Shown → List Record → ℕ → List ℕ
+fields_text ending s trace digest = ending_text ending ++ (shown_text s ++ ((32 ∷ trace_text trace) ++ (32 ∷ hex 16 digest)))
+
 -- The line of an outcome.
 abbrev pub line_text : Result ℕ TapeFault → Shown → List Record → ℕ → List ℕ
-line_text ending s trace digest = ending_text ending ++ (shown_text s ++ ((32 ∷ trace_text trace) ++ ((32 ∷ hex 16 digest) ++ (10 ∷ []))))
+line_text ending s trace digest = fields_text ending s trace digest ++ (10 ∷ [])

@@ -4,5 +4,6 @@
 pub mod digest;
 pub mod hex;
 pub mod line;
+pub mod peripherals;
 pub mod played;
 pub mod shown;

@@ -1,8 +1,10 @@
-ghost use Rattle.std.specs.Prelude.{◌∷◌};
+ghost use Rattle.std.specs.Prelude.{[], ◌∷◌};
 ghost use Rattle.queue.specs.Rows.{queued};
-ghost use Rattle.outcome.specs.Texts.{Adds, hex, ending_text, registers_text, record_text, trace_text, shown_text, line_text};
+ghost use Rattle.outcome.specs.Texts.{Adds, hex, ending_text, registers_text, record_text, trace_text, shown_text, fields_text, line_text};
+ghost use Rattle.outcome.specs.PeripheralTexts.{device_line_text};
 
 use crate::hex::add_hex;
+use crate::peripherals::{Devices, add_devices};
 use crate::shown::Shown;
 use model::Record;
 use queue::Queue;
@@ -88,8 +90,32 @@ fn add_shown(text: &mut Vec<u8>, shown: &Shown) -> Result<(), AllocError>
     add_field(text, 2, u64::from(shown.interrupt_status))
 }
 
-/// Adds the line of an outcome: how the tape ended, the fields of the processor, the trace, the digest of the store and a
-/// newline.
+/// Adds the fields of an outcome: how the tape ended, the fields of the processor, the trace and the digest of the store.
+fn add_fields(
+    text: &mut Vec<u8>,
+    ending: Result<usize, TapeFault>,
+    shown: &Shown,
+    trace: &Queue<'_, Record>,
+    digest: u64,
+) -> Result<(), AllocError>
+    ensures { Adds result text.old.items text.new.items (fields_text ending shown.now (queued trace.now) digest) }
+{
+    add_ending(text, ending)?;
+    add_shown(text, shown)?;
+    text.push(b' ')?;
+    add_trace(text, trace)?;
+    add_field(text, 16, digest)
+}
+
+/// Adds a newline.
+fn end_line(text: &mut Vec<u8>) -> Result<(), AllocError>
+    ensures { Adds result text.old.items text.new.items (10 ∷ []) }
+{
+    text.push(b'\n')?;
+    Ok(())
+}
+
+/// Adds the line of an outcome: its fields and a newline.
 pub fn add_line(
     text: &mut Vec<u8>,
     ending: Result<usize, TapeFault>,
@@ -99,11 +125,22 @@ pub fn add_line(
 ) -> Result<(), AllocError>
     ensures { Adds result text.old.items text.new.items (line_text ending shown.now (queued trace.now) digest) }
 {
-    add_ending(text, ending)?;
-    add_shown(text, shown)?;
-    text.push(b' ')?;
-    add_trace(text, trace)?;
-    add_field(text, 16, digest)?;
-    text.push(b'\n')?;
-    Ok(())
+    add_fields(text, ending, shown, trace, digest)?;
+    end_line(text)
+}
+
+/// Adds the line of an outcome over devices: its fields, what the devices show, and a newline.
+pub fn add_device_line(
+    text: &mut Vec<u8>,
+    ending: Result<usize, TapeFault>,
+    shown: &Shown,
+    trace: &Queue<'_, Record>,
+    digest: u64,
+    devices: &Devices,
+) -> Result<(), AllocError>
+    ensures { Adds result text.old.items text.new.items (device_line_text ending shown.now (queued trace.now) digest devices.now) }
+{
+    add_fields(text, ending, shown, trace, digest)?;
+    add_devices(text, devices)?;
+    end_line(text)
 }

@@ -67,7 +67,12 @@ fn every_operation(trials: &mut Trials) {
 /// Three steps over a device, in either set, with relocation on and off.
 fn operation(trials: &mut Trials, keys: &[u8], number: u32, halfwords: Vec<u16>) {
     let case = trials.len();
-    let status = varied_status(case) | if case % 3 == 0 { RELOCATION } else { 0 };
+    let status = varied_status(case)
+        | if case.is_multiple_of(3) {
+            RELOCATION
+        } else {
+            0
+        };
     let scene = Scene::new(status)
         .segment(0, OPEN)
         .all_registers()
@@ -91,7 +96,7 @@ fn checked_operands(trials: &mut Trials) {
             for digit in [0x0, 0x1, 0x3, 0x5, 0x7, 0x9, 0xD] {
                 for status in [0, PROTECTION, SET_15 | 0xF] {
                     let case = trials.len() as u32;
-                    let limit = if case % 5 == 0 { 0x0F } else { 0x10 };
+                    let limit = if case.is_multiple_of(5) { 0x0F } else { 0x10 };
                     let scene = Scene::relocated(status)
                         .segment(1, segment(limit, 0, digit))
                         .registers(&[(1, number), (2, 0x5A)])
@@ -160,7 +165,7 @@ fn requests(trials: &mut Trials) {
             for keys in KEYS {
                 for steps in [1, 20] {
                     let case = trials.len();
-                    let number = if case % 7 == 0 { 18 } else { 2 };
+                    let number = if case.is_multiple_of(7) { 18 } else { 2 };
                     let handler = 0x0D00 + case as u16 % 2;
                     let halfwords = [
                         first(code("OCR"), 1, 7),
