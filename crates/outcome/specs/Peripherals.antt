@@ -5,6 +5,7 @@ use Rattle.std.specs.Option.{unwrap_or}
 use Rattle.model.specs.Buses.{Bus}
 use Rattle.joined.specs.Parts.{joined}
 use Rattle.buses.specs.declared.drives.Drive.{Drive}
+use Rattle.buses.specs.declared.usage.Usage.{Usage}
 use Rattle.buses.specs.Devices.{unused, teletype, drive_bus, usage_of, position_of}
 use Rattle.outcome.specs.declared.peripherals.DriveShown.{DriveShown}
 use Rattle.outcome.specs.declared.peripherals.Devices.{Devices}
@@ -17,10 +18,14 @@ drive_of drives n = record { usage = unwrap_or (usage_of drives n) unused; posit
 abbrev pub all_drives : List Drive → List DriveShown
 all_drives drives = map (λ number. drive_of drives (16 + number)) (range_with_len 0 8)
 
--- The bus b is a teletype and drives. The use of each is shown as it is, and so are the number of bytes that wait and the positions.
+-- What is shown of a teletype that was used so, for which the bytes wait, and of drives.
+abbrev pub shown_of : List ℕ → Usage → List Drive → Devices
+shown_of bytes usage drives = record { teletype = usage; waiting = length bytes; drives = all_drives drives }
+
+-- The bus b is a teletype and drives, and this is shown of them.
 pub record DevicesShown (shown : Devices) (b : Bus) : Type 0 where
-  pub waiting : List ℕ
+  pub bytes : List ℕ
+  pub usage : Usage
   pub drives : List Drive
-  pub bus : b ≡ joined (teletype waiting shown.teletype) (drive_bus drives)
-  pub bytes : shown.waiting ≡ length waiting
-  pub all : shown.drives ≡ all_drives drives
+  pub bus : b ≡ joined (teletype bytes usage) (drive_bus drives)
+  pub shows : shown ≡ shown_of bytes usage drives

@@ -1,8 +1,6 @@
 ghost use Rattle.std.specs.Prelude.{◌≡◌, ◌++◌, ◌∷◌};
 ghost use Rattle.queue.specs.Rows.{queued};
-ghost use Rattle.joined.specs.Parts.{joined};
-ghost use Rattle.buses.specs.Devices.{teletype, drive_bus};
-ghost use Rattle.outcome.specs.Peripherals.{drive_of, all_drives, DevicesShown};
+ghost use Rattle.outcome.specs.Peripherals.{drive_of, all_drives, shown_of};
 ghost use Rattle.outcome.specs.PeripheralTexts.{usage_text, drive_text, drives_text, devices_text};
 ghost use Rattle.outcome.specs.Texts.{Adds};
 
@@ -54,7 +52,7 @@ fn all_drives(drives: &Drives) -> [DriveShown; 8]
 
 /// What a teletype and the drives show, joined as one bus.
 pub fn devices_of(bus: &JoinedBus<Teletype<'_>, Drives>) -> Devices
-    ensures { DevicesShown result (joined (teletype (queued bus.now.first.waiting) bus.now.first.usage) (drive_bus bus.now.second.drives)) }
+    ensures { result ≡ shown_of (queued bus.now.first.waiting) bus.now.first.usage bus.now.second.drives }
 {
     let teletype = bus.first();
     Devices {
