@@ -1,4 +1,4 @@
-//! What a tape leaves, as text: numbers in hexadecimal, and the line of an outcome.
+//! What a tape leaves, as text: numbers in hexadecimal, what devices show, and the line of an outcome.
 #![tactic(auto)]
 
 pub mod digest;

@@ -78,11 +78,11 @@ fn device_vectors(chance: &mut Chance, writer: &mut Writer) {
     }
     let read = first(0x9B, 2, 5);
     let command = first(0x9E, 2, chance.below(16) as u8);
-    let return_ = first(0x18, 0, 0);
+    let back = first(0x18, 0, 0);
     let body = chance.pick(&[
-        [read, return_, return_],
-        [command, return_, return_],
-        [read, command, return_],
+        [read, back, back],
+        [command, back, back],
+        [read, command, back],
     ]);
     writer.halfwords(HANDLER, &body);
 }
