@@ -1,7 +1,8 @@
 //! A straightforward interpreter of the machine of docs/MACHINE.md, to time another one beside. It has the whole step (device poll,
 //! wait, fetch, decode, execute, interrupts, trace), the access controller with its checks at every access, and the instructions
 //! between registers, with short, halfword and fullword operands, and the branches. It lacks multiplication, division, shifts by an
-//! operand, bit instructions, load and store multiple, input and output and the loading of a PSW: their codes are illegal here.
+//! operand, bit and byte instructions but LB, additions to memory, index branches, TS, EXBR, load and store multiple, input and output, EPSR
+//! and the loading of a PSW: their codes are illegal here. So no code here is privileged, and no instruction ends in an arithmetic fault.
 
 /// The devices of a machine.
 pub trait Bus {
