@@ -8,7 +8,8 @@ use Rattle.model.specs.Answers.{number, Answer, denied, ran}
 use Rattle.model.specs.Console.{Desk}
 use Rattle.model.specs.Runs.{Ran, RunsUnless}
 use Rattle.steps.specs.declared.run.RunAnswer.{RunAnswer}
-use Rattle.console.specs.View.{refusal, ran_by}
+use Rattle.steps.specs.View.{refusal}
+use Rattle.console.specs.View.{ran_by}
 
 module _ (meaning : ℕ → Prog) where
   pub run_denied :
