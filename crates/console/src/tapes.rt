@@ -47,6 +47,7 @@ fn obey<S: Store, B: Bus>(
 }
 
 /// The address of the next deposit, and the bytes that are still to be read.
+#[derive(Clone, Copy)]
 struct Reader<'t> {
     address: u32,
     rest: &'t [u8],
