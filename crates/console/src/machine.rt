@@ -139,7 +139,7 @@ impl<S: Store, B: Bus> Machine<S, B> {
     pub fn play(&mut self, tape: &[u8], trace: &mut Queue<'_, Record>) -> Result<usize, TapeFault>
         ensures says { Plays S.Store.meaning B.Bus.devices tape.now self.old trace.old result self.new trace.new }
         ensures key { self.new.key ≡ self.old.key }
-        ensures off { number_of self.old.key.position ≡ off → (self.new ≡ self.old) × (trace.new ≡ trace.old) }
+        ensures denied_at_off { number_of self.old.key.position ≡ off → (self.new ≡ self.old) × (trace.new ≡ trace.old) }
         ensures same { SameSlots trace.old trace.new }
         ensures extended { Extended trace.old trace.new }
     {

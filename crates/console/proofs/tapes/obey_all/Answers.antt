@@ -47,5 +47,11 @@ returns-clause-played g c =
 pub returns-in_err-next-clause-extended : goal.returns-in_err-next-clause-extended
 returns-in_err-next-clause-extended g c = search (rules, extended_twice)
 
-pub loop-rest-init-clause-extended : goal.loop-rest-init-clause-extended
-loop-rest-init-clause-extended g c = extended_same _
+pub loop-rest-init : goal.loop-rest-init
+loop-rest-init g c =
+    record {
+      goes = search rules;
+      part = search rules;
+      same = search rules;
+      extended = extended_same _;
+    }
