@@ -1,5 +1,5 @@
 -- A run that is denied, and one that is made.
-use Rattle.std.proofs.Common.{◌≡◌, ℕ, List, Some, None, Ok, Err, Option, Result, MatchResult, sym, refl, subst}
+use Rattle.std.proofs.Common.{◌≡◌, ℕ, List, Some, None, Ok, Err, Option, Result, IfOk, OnErr, sym, refl, subst}
 use Rattle.model.specs.declared.Denial.{Denial}
 use Rattle.model.specs.declared.Record.{Record}
 use Rattle.model.specs.declared.Reason.{Reason}
@@ -8,7 +8,8 @@ use Rattle.model.specs.Answers.{number, Answer, denied, ran}
 use Rattle.model.specs.Console.{Desk}
 use Rattle.model.specs.Runs.{Ran, RunsUnless}
 use Rattle.steps.specs.declared.run.RunAnswer.{RunAnswer}
-use Rattle.console.specs.View.{refusal, ran_by}
+use Rattle.steps.specs.View.{refusal}
+use Rattle.console.specs.View.{ran_by}
 
 module _ (meaning : ℕ → Prog) where
   pub run_denied :
@@ -26,7 +27,7 @@ module _ (meaning : ℕ → Prog) where
   -- A run by its result.
   pub run_said :
       (d : Option ℕ) (cap count : ℕ) (w : Desk) (q : List Record) (r : Result RunAnswer Denial) (v : Desk) (p : List Record) →
-      refusal r ≡ d → MatchResult r (λ a. (v.key ≡ w.key) × Ran meaning cap count a.steps a.reason w.core q v.core p) (λ _. (v ≡ w) × (p ≡ q)) →
+      refusal r ≡ d → v.key ≡ w.key → IfOk r (λ a. Ran meaning cap count a.steps a.reason w.core q v.core p) → OnErr r (v ≡ w) → OnErr r (p ≡ q) →
       RunsUnless meaning d cap count w q (ran_by r) v p
-  run_said d cap count w q (Ok a) v p e h = run_made d a.steps cap count a.reason w q (ran a.steps a.reason) v p (sym e) refl h.0 h.1
-  run_said d cap count w q (Err n) v p e h = run_denied d (number n) cap count w q (denied (number n)) v p (sym e) refl h.0 h.1
+  run_said d cap count w q (Ok a) v p e key made same kept = run_made d a.steps cap count a.reason w q (ran a.steps a.reason) v p (sym e) refl key made
+  run_said d cap count w q (Err n) v p e key made same kept = run_denied d (number n) cap count w q (denied (number n)) v p (sym e) refl same kept

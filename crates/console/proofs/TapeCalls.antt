@@ -1,5 +1,5 @@
 -- A tape, command by command.
-use Rattle.std.proofs.Common.{◌≡◌, ℕ, zero, suc, ◌+◌, ◌-◌, ◌^◌, ◌<◌, ◌≤◌, Bool, true, false, cond, ltb, List, [], ◌∷◌, length, get_or, take, drop, Some, None, Ok, Err, Option, Result, MatchResult, IsErrAnd, sym, refl, ap, ◌∙◌, subst, add-zero, arith, length-drop, rules}
+use Rattle.std.proofs.Common.{◌≡◌, ℕ, zero, suc, ◌+◌, ◌-◌, ◌<◌, ◌≤◌, Bool, true, false, cond, ltb, List, [], ◌∷◌, length, get_or, take, drop, Some, None, Ok, Err, Option, Result, MatchResult, IsErrAnd, sym, refl, ap, ◌∙◌, subst, add-zero, arith, length-drop, rules}
 use Rattle.std.proofs.lemmas.List.{drop_more, take_rest, nil_from_length}
 use Rattle.std.proofs.lemmas.Result.{err_from_is_err_and}
 use Rattle.queue.specs.declared.Queue.{Queue}
@@ -13,45 +13,12 @@ use Rattle.model.specs.Answers.{number, on, Answer, denied, done, played, faulte
 use Rattle.model.specs.Console.{Desk, Act, with_key, call, gives}
 use Rattle.model.specs.Tapes.{Order, Command, unknown, known, command_of, Spelling, end, broken, order, spelled, spell_from, spell, obey, Obeys, Playing, ends, breaks, halts, goes_on, PlaysUnless}
 use Rattle.tape.specs.declared.orders.Order.{Order as TapeOrder}
-use Rattle.tape.specs.declared.orders.Order.TheVariants.{Point, Deposit, Set, Go}
-use Rattle.tape.specs.Commands.{order_of, Holds, Broken, NextTo}
+use Rattle.tape.proofs.Spellings.{spell_whole, spell_broken}
+use Rattle.tape.specs.Commands.{order_of, Holds, Stops, Broken}
 use Rattle.processor.specs.declared.cpu.Core.{Core}
 use Rattle.instructions.specs.Instructions.{instruction}
 use Rattle.console.specs.View.{done_by}
-use Rattle.console.specs.Tape.{on_desk, Obeyed, Low}
-
-past : (b : ℕ) (bytes : List ℕ) (size place a : ℕ) → spell_from (b ∷ bytes) (suc size) place a ≡ spell_from bytes size (place + 1) a
-unfolding spell_from
-past b bytes size place a = refl
-
--- The bytes of an operand are passed over.
-skip : (bytes : List ℕ) (size place a : ℕ) → size ≤ length bytes → spell_from bytes size place a ≡ spell_from (drop size bytes) 0 (place + size) a
-skip bytes zero place a h = ap (λ (k : ℕ). spell_from bytes 0 k a) (sym (add-zero place))
-skip [] (suc size) place a h = absurd (omega arith)
-skip (b ∷ bytes) (suc size) place a h =
-    let e : (place + 1) + size ≡ place + suc size = omega arith in
-    past b bytes size place a ∙ (skip bytes size (place + 1) a (omega arith) ∙ ap (λ (k : ℕ). spell_from (drop size bytes) 0 k a) e)
-
-here : (b : ℕ) (bytes : List ℕ) (place a : ℕ) → spell_from (b ∷ bytes) 0 place a ≡ spelled (command_of b a bytes) b place bytes (λ size next. spell_from bytes size (place + 1) next)
-unfolding spell_from
-here b bytes place a = refl
-
--- A whole command is an order, before what the bytes behind it spell.
-pub spell_whole :
-    (letter a size next place : ℕ) (bytes : List ℕ) (o : Order) →
-    command_of letter a bytes ≡ known size o next →
-    size ≤ length bytes →
-    spell_from (letter ∷ bytes) 0 place a ≡ order o letter place (spell_from (drop size bytes) 0 (place + 1 + size) next)
-spell_whole letter a size next place bytes o e h =
-    let more : ℕ → ℕ → Spelling = λ s n. spell_from bytes s (place + 1) n in
-    let enough : ltb (length bytes) size ≡ false = search rules in
-    here letter bytes place a ∙
-    (ap (λ (c : Command). spelled c letter place bytes more) e ∙
-    (ap (λ (b : Bool). cond b (broken 6 place letter) (order o letter place (more size next))) enough ∙
-    ap (λ (s : Spelling). order o letter place s) (skip bytes size (place + 1) next h)))
-
-pub spell_broken : (letter a n place : ℕ) (bytes : List ℕ) → Broken letter a bytes n → spell_from (letter ∷ bytes) 0 place a ≡ broken n place letter
-spell_broken letter a n place bytes h = here letter bytes place a ∙ h place (λ s m. spell_from bytes s (place + 1) m)
+use Rattle.console.specs.Tape.{on_desk, Obeyed}
 
 -- What is told of an error.
 pub stopped : {X Y : Type 0} (P : X → Type 0) (Q : Y → Type 0) (r : Result X Y) (d : Y) → r ≡ Err d → Q d → MatchResult r P Q
@@ -74,10 +41,10 @@ held (known size p n) bytes o next rest h = (size, (λ i. known size (h.0 i) (h.
 module _ (meaning : ℕ → Prog) (cap : ℕ) where
   -- A letter that begins no whole command stops the tape there.
   pub broken_there :
-      (letter a d place n : ℕ) (bytes : List ℕ) (w : Desk) (q : List Record) →
-      Broken letter a bytes d → Playing meaning cap (spell_from (letter ∷ bytes) 0 place a) n w q (faulted d place (Some letter)) w q
-  broken_there letter a d place n bytes w q h =
-      subst (λ (s : Spelling). Playing meaning cap s n w q (faulted d place (Some letter)) w q) (sym (spell_broken letter a d place bytes h)) breaks
+      (letter a place n : ℕ) (bytes : List ℕ) (d : Denial) (w : Desk) (q : List Record) →
+      Broken letter bytes d → Playing meaning cap (spell_from (letter ∷ bytes) 0 place a) n w q (faulted (number d) place (Some letter)) w q
+  broken_there letter a place n bytes d w q h =
+      subst (λ (s : Spelling). Playing meaning cap s n w q (faulted (number d) place (Some letter)) w q) (sym (spell_broken letter a place bytes d h)) breaks
 
   -- So does a command that is denied.
   pub denied_there :
@@ -102,19 +69,12 @@ module _ (meaning : ℕ → Prog) (cap : ℕ) where
 
 -- An order to the console, by what the call answers.
 pub obeyed_call :
-    {S B : Type 0} (meaning : S → Store) (devices : B → Bus) (o : TapeOrder) (c : Act) (m n : Core S B) (t : Queue Record) (r : Result (Unit {0}) Denial) →
-    order_of o ≡ obey c → call instruction c (on_desk meaning devices m) ≡ gives (done_by r) (on_desk meaning devices n) → Obeyed meaning devices o m t r n t
-obeyed_call meaning devices o c m n t (Ok u) eo e =
+    {S B : Type 0} (meaning : S → Store) (devices : B → Bus) (a : ℕ) (o : TapeOrder) (c : Act) (m n : Core S B) (t : Queue Record) (r : Result (Unit {0}) Denial) →
+    order_of a o ≡ obey c → call instruction c (on_desk meaning devices m) ≡ gives (done_by r) (on_desk meaning devices n) → Obeyed meaning devices a o m t r n t
+obeyed_call meaning devices a o c m n t (Ok u) eo e =
     (done, subst (λ (x : Order). Obeys instruction (capacity t) x (on_desk meaning devices m) (queued t) done (on_desk meaning devices n) (queued t)) (sym eo) (e, refl), refl)
-obeyed_call meaning devices o c m n t (Err d) eo e =
+obeyed_call meaning devices a o c m n t (Err d) eo e =
     subst (λ (x : Order). Obeys instruction (capacity t) x (on_desk meaning devices m) (queued t) (denied (number d)) (on_desk meaning devices n) (queued t)) (sym eo) (e, refl)
-
--- After an accepted command the next address has at most 24 bits and one.
-pub next_low : (o : TapeOrder) (n : ℕ) (u : Unit {0}) → NextTo o n → Low o (Ok u) → n ≤ 2 ^ 24
-next_low Point n u h l = h
-next_low (Deposit a v) n u h l = omega arith
-next_low (Set i v) n u h l = h
-next_low (Go k) n u h l = h
 
 pub gone : (bytes rest : List ℕ) (size place : ℕ) → size ≤ length bytes → rest ≡ drop size bytes → place + 1 + (length bytes - length rest) ≡ place + 1 + size
 gone bytes rest size place h e = omega (arith, ap length e, length-drop size bytes)

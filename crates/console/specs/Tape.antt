@@ -1,5 +1,5 @@
 -- The tape's code as the definitions see it.
-use Rattle.std.specs.Prelude.{◌≡◌, ℕ, ◌+◌, ◌-◌, ◌^◌, ◌<◌, true, List, ◌∷◌, length, Some, Ok, Err, Result, IfOk}
+use Rattle.std.specs.Prelude.{◌≡◌, ℕ, ◌+◌, ◌-◌, true, List, ◌∷◌, length, Some, Ok, Err, Result}
 use Rattle.queue.specs.declared.Queue.{Queue}
 use Rattle.queue.specs.Rows.{queued, capacity}
 use Rattle.model.specs.declared.Denial.{Denial}
@@ -14,7 +14,6 @@ use Rattle.processor.specs.View.{state_of}
 use Rattle.instructions.specs.Instructions.{instruction}
 use Rattle.console.specs.declared.machine.Machine.{Machine}
 use Rattle.tape.specs.declared.orders.Order.{Order as TapeOrder}
-use Rattle.tape.specs.declared.orders.Order.TheVariants.{Point, Deposit, Set, Go}
 use Rattle.tape.specs.declared.orders.TapeFault.{TapeFault}
 use Rattle.tape.specs.Commands.{order_of}
 use Rattle.console.specs.View.{desk_of}
@@ -29,11 +28,11 @@ module _ {S B : Type 0} (meaning : S → Store) (devices : B → Bus) where
   abbrev pub on_desk : Core S B → Desk
   on_desk m = record { key = on; core = state_of meaning devices m }
 
-  -- An order that was obeyed or denied.
-  abbrev pub Obeyed : TapeOrder → Core S B → Queue Record → Result (Unit {0}) Denial → Core S B → Queue Record → Type 0
-  Obeyed o m t (Ok u) n r =
-      (b : Answer) × Obeys instruction (capacity t) (order_of o) (on_desk m) (queued t) b (on_desk n) (queued r) × (accepted b ≡ true)
-  Obeyed o m t (Err d) n r = Obeys instruction (capacity t) (order_of o) (on_desk m) (queued t) (denied (number d)) (on_desk n) (queued r)
+  -- An order that was obeyed or denied, where the next deposit was at the address a.
+  abbrev pub Obeyed : {X : Type 0} → ℕ → TapeOrder → Core S B → Queue Record → Result X Denial → Core S B → Queue Record → Type 0
+  Obeyed a o m t (Ok x) n r =
+      (b : Answer) × Obeys instruction (capacity t) (order_of a o) (on_desk m) (queued t) b (on_desk n) (queued r) × (accepted b ≡ true)
+  Obeyed a o m t (Err d) n r = Obeys instruction (capacity t) (order_of a o) (on_desk m) (queued t) (denied (number d)) (on_desk n) (queued r)
 
   -- A tape that was played with the key ON.
   abbrev pub Played : List ℕ → Core S B → Queue Record → Result ℕ TapeFault → Core S B → Queue Record → Type 0
@@ -41,13 +40,6 @@ module _ {S B : Type 0} (meaning : S → Store) (devices : B → Bus) where
 
   abbrev pub Plays : List ℕ → Machine S B → Queue Record → Result ℕ TapeFault → Machine S B → Queue Record → Type 0
   Plays tape m t a n u = PlaysBy instruction (capacity t) tape (desk_of meaning devices m) (queued t) (played_by a) (desk_of meaning devices n) (queued u)
-
--- An accepted deposit lies below X'100000'.
-abbrev pub Low : {X : Type 0} → TapeOrder → Result X Denial → Type 0
-Low (Deposit a v) r = IfOk r (λ _. a < 2 ^ 20)
-Low Point r = Unit {0}
-Low (Set i v) r = Unit {0}
-Low (Go n) r = Unit {0}
 
 module _ {S B : Type 0} (meaning : S → Store) (devices : B → Bus) where
   -- The command at a letter was obeyed, at any place and after any number of them: as the tape goes on from the bytes rest, so it

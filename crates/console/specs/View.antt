@@ -1,5 +1,5 @@
 -- The console's code as the definitions see it.
-use Rattle.std.specs.Prelude.{◌≡◌, ℕ, ◌-◌, length, Some, None, Ok, Err, Option, Result}
+use Rattle.std.specs.Prelude.{◌≡◌, ℕ, ◌-◌, length, Ok, Err, Result}
 use Rattle.queue.specs.declared.Queue.{Queue}
 use Rattle.queue.specs.Rows.{queued, capacity}
 use Rattle.model.specs.declared.Denial.{Denial}
@@ -15,11 +15,6 @@ use Rattle.instructions.specs.Instructions.{instruction}
 use Rattle.steps.specs.declared.run.RunAnswer.{RunAnswer}
 use Rattle.console.specs.declared.machine.Machine.{Machine}
 use Rattle.console.specs.Keys.{number_of}
-
--- The number of a denial, if there is one.
-abbrev pub refusal : {X : Type 0} → Result X Denial → Option ℕ
-refusal (Ok v) = None
-refusal (Err d) = Some (number d)
 
 -- The answers of the calls: of those that only do something, show a number, step, or run.
 abbrev pub done_by : Result (Unit {0}) Denial → Answer

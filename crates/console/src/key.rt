@@ -1,8 +1,8 @@
 ghost use Rattle.std.specs.Prelude.{◌≡◌, IfOk, ◌==◌};
 ghost use Rattle.model.specs.Answers.{off, lock};
 ghost use Rattle.model.specs.Console.{or_else, deny_if, position_denial};
+ghost use Rattle.steps.specs.View.{refusal};
 ghost use Rattle.console.specs.Keys.{number_of, Turns};
-ghost use Rattle.console.specs.View.{refusal};
 
 use model::Denial;
 

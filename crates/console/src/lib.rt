@@ -4,6 +4,5 @@
 pub mod key;
 pub mod machine;
 mod registers_at;
-mod runs;
 mod store_at;
 mod tapes;

@@ -1,7 +1,9 @@
-ghost use Rattle.std.specs.Prelude.{◌≡◌};
-ghost use Rattle.queue.specs.Rows.{SameSlots};
+ghost use Rattle.std.specs.Prelude.{◌≡◌, OnErr};
+ghost use Rattle.queue.specs.Rows.{SameSlots, Extended};
+ghost use Rattle.model.specs.Answers.{off};
 ghost use Rattle.model.specs.Console.{made as made_desk, turn_key, initialise, examine, deposit, set_item, show_item};
 ghost use Rattle.model.specs.Runs.{StepsSplit};
+ghost use Rattle.processor.specs.View.{SameParts};
 ghost use Rattle.instructions.specs.Instructions.{instruction};
 ghost use Rattle.console.specs.Keys.{number_of};
 ghost use Rattle.console.specs.Tape.{Plays};
@@ -9,14 +11,13 @@ ghost use Rattle.console.specs.View.{desk_of, done_by, shown_by, stepped_by, ran
 
 use crate::key::Key;
 use crate::registers_at::{item_in, set_item};
-use crate::runs::{check_room, run_at};
 use crate::store_at::{deposit_at, place_at};
 use crate::tapes::play_on;
 use bus::meaning::Bus;
 use model::{Denial, Item, Record, StepAnswer};
 use processor::cpu::Core;
 use queue::Queue;
-use steps::run::RunAnswer;
+use steps::run::{RunAnswer, run};
 use steps::step::step;
 use store::meaning::Store;
 use tape::orders::TapeFault;
@@ -40,10 +41,20 @@ impl<S: Store, B: Bus> Machine<S, B> {
         }
     }
 
+    /// Takes the machine apart: its store and its bus, as they are.
+    pub fn into_parts(self) -> (S, B)
+        ensures store { result.0 ≡ self.core.store }
+        ensures bus { result.1 ≡ self.core.bus }
+    {
+        self.core.into_parts()
+    }
+
     // u8, not Position: any number may be given, and one that is no position is denied.
-    /// Turns the key: 0 OFF, 1 ON, 2 LOCK.
+    /// Turns the key: 0 OFF, 1 ON, 2 LOCK. Another number is denied. The processor, its store and its bus stay.
     pub fn turn_key(&mut self, position: u8) -> Result<(), Denial>
-        ensures { Says S.Store.meaning B.Bus.devices (turn_key position) self.old (done_by result) self.new }
+        ensures says { Says S.Store.meaning B.Bus.devices (turn_key position) self.old (done_by result) self.new }
+        ensures denied { OnErr result (self.new ≡ self.old) }
+        ensures core { self.new.core ≡ self.old.core }
     {
         self.key = Key::at(position)?;
         Ok(())
@@ -51,7 +62,9 @@ impl<S: Store, B: Bus> Machine<S, B> {
 
     /// Puts the processor at its start again.
     pub fn initialise(&mut self) -> Result<(), Denial>
-        ensures { Says S.Store.meaning B.Bus.devices initialise self.old (done_by result) self.new }
+        ensures says { Says S.Store.meaning B.Bus.devices initialise self.old (done_by result) self.new }
+        ensures denied { OnErr result (self.new ≡ self.old) }
+        ensures parts { SameParts self.old.core self.new.core }
     {
         self.key.unless_off()?;
         self.core.reset();
@@ -70,7 +83,9 @@ impl<S: Store, B: Bus> Machine<S, B> {
 
     /// Writes a halfword at a real address, in the store.
     pub fn deposit(&mut self, address: u32, word: u16) -> Result<(), Denial>
-        ensures { Says S.Store.meaning B.Bus.devices (deposit address word) self.old (done_by result) self.new }
+        ensures says { Says S.Store.meaning B.Bus.devices (deposit address word) self.old (done_by result) self.new }
+        ensures denied { OnErr result (self.new ≡ self.old) }
+        ensures bus { self.new.core.bus ≡ self.old.core.bus }
     {
         self.key.unless_closed()?;
         deposit_at(&mut self.core, address, word)
@@ -78,7 +93,9 @@ impl<S: Store, B: Bus> Machine<S, B> {
 
     /// Gives a register another number.
     pub fn set(&mut self, item: Item, value: u32) -> Result<(), Denial>
-        ensures { Says S.Store.meaning B.Bus.devices (set_item item value) self.old (done_by result) self.new }
+        ensures says { Says S.Store.meaning B.Bus.devices (set_item item value) self.old (done_by result) self.new }
+        ensures denied { OnErr result (self.new ≡ self.old) }
+        ensures parts { SameParts self.old.core self.new.core }
     {
         self.key.unless_closed()?;
         set_item(&mut self.core, item, value)
@@ -96,28 +113,35 @@ impl<S: Store, B: Bus> Machine<S, B> {
     /// Makes one step; an interrupt adds a record to the trace.
     pub fn step(&mut self, trace: &mut Queue<'_, Record>) -> Result<StepAnswer, Denial>
         ensures says { Steps S.Store.meaning B.Bus.devices self.old trace.old (stepped_by result) self.new trace.new }
+        ensures denied { OnErr result (self.new ≡ self.old) }
+        ensures denied_trace { OnErr result (trace.new ≡ trace.old) }
         ensures same { SameSlots trace.old trace.new }
+        ensures extended { Extended trace.old trace.new }
     {
         self.key.unless_off()?;
-        check_room(trace)?;
-        Ok(step(&mut self.core, trace))
+        step(&mut self.core, trace)
     }
 
     /// Steps until one waits, the trace is full or the count is reached.
     pub fn run(&mut self, count: u32, trace: &mut Queue<'_, Record>) -> Result<RunAnswer, Denial>
         ensures says { Runs S.Store.meaning B.Bus.devices count self.old trace.old (ran_by result) self.new trace.new }
         ensures splits { StepsSplit instruction }
+        ensures denied { OnErr result (self.new ≡ self.old) }
+        ensures denied_trace { OnErr result (trace.new ≡ trace.old) }
         ensures same { SameSlots trace.old trace.new }
+        ensures extended { Extended trace.old trace.new }
     {
         self.key.unless_off()?;
-        run_at(&mut self.core, count, trace)
+        run(&mut self.core, trace, count)
     }
 
     /// Plays a tape with the key ON; answers the number of commands obeyed. The key is back where it was, however the tape ends.
     pub fn play(&mut self, tape: &[u8], trace: &mut Queue<'_, Record>) -> Result<usize, TapeFault>
         ensures says { Plays S.Store.meaning B.Bus.devices tape.now self.old trace.old result self.new trace.new }
         ensures key { self.new.key ≡ self.old.key }
+        ensures denied_at_off { number_of self.old.key.position ≡ off → (self.new ≡ self.old) × (trace.new ≡ trace.old) }
         ensures same { SameSlots trace.old trace.new }
+        ensures extended { Extended trace.old trace.new }
     {
         self.key.unless_off()?;
         let mut key = self.key;

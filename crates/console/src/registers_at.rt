@@ -1,7 +1,7 @@
 ghost use Rattle.std.specs.Prelude.{◌≡◌, IfOk, OnOk, OnErr};
 ghost use Rattle.model.specs.Console.{or_else, item_denial, value_denial, item_of, with_item};
-ghost use Rattle.processor.specs.View.{state_of};
-ghost use Rattle.console.specs.View.{refusal};
+ghost use Rattle.processor.specs.View.{state_of, SameParts};
+ghost use Rattle.steps.specs.View.{refusal};
 
 use crate::store_at::is_strange;
 use bus::meaning::Bus;
@@ -58,7 +58,8 @@ pub(crate) fn set_item<S: Store, B: Bus>(
 ) -> Result<(), Denial>
     ensures refused { refusal result ≡ or_else (item_denial item) (value_denial item value) }
     ensures does { OnOk result (state_of S.Store.meaning B.Bus.devices core.new ≡ with_item item value (state_of S.Store.meaning B.Bus.devices core.old)) }
-    ensures same { OnErr result (core.new ≡ core.old) }
+    ensures denied { OnErr result (core.new ≡ core.old) }
+    ensures parts { SameParts core.old core.new }
 {
     check_item(item)?;
     check_value(item, value)?;

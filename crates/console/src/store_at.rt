@@ -3,7 +3,7 @@ ghost use Rattle.model.specs.Stores.{stored};
 ghost use Rattle.model.specs.States.{with_store};
 ghost use Rattle.model.specs.Console.{or_else, strange, place_denial, fixed_denial};
 ghost use Rattle.processor.specs.View.{state_of};
-ghost use Rattle.console.specs.View.{refusal};
+ghost use Rattle.steps.specs.View.{refusal};
 
 use bus::meaning::Bus;
 use model::{Denial, Kind};
@@ -42,7 +42,8 @@ pub(crate) fn deposit_at<S: Store, B: Bus>(
 ) -> Result<(), Denial>
     ensures refused { refusal result ≡ or_else (place_denial address (S.Store.meaning core.old.store)) (fixed_denial address (S.Store.meaning core.old.store)) }
     ensures does { OnOk result (state_of S.Store.meaning B.Bus.devices core.new ≡ with_store (stored (S.Store.meaning core.old.store) (address / 2) word) (state_of S.Store.meaning B.Bus.devices core.old)) }
-    ensures same { OnErr result (core.new ≡ core.old) }
+    ensures denied { OnErr result (core.new ≡ core.old) }
+    ensures bus { core.new.bus ≡ core.old.bus }
     ensures low { IfOk result (λ _. address < 2 ^ 20) }
 {
     let place = place_at(core, address)?;

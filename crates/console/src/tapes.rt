@@ -1,39 +1,56 @@
-ghost use Rattle.std.specs.Prelude.{◌≡◌, ◌^◌, ◌≤◌, length, IfOk, MatchResult};
-ghost use Rattle.queue.specs.Rows.{SameSlots};
-ghost use Rattle.console.specs.Tape.{Obeyed, Low, Played, Advances, StopsAt};
+ghost use Rattle.std.specs.Prelude.{◌≡◌, ◌≤◌, length, IfOk, MatchResult};
+ghost use Rattle.queue.specs.Rows.{SameSlots, Extended};
+ghost use Rattle.tape.specs.Commands.{next_of};
+ghost use Rattle.console.specs.Tape.{Obeyed, Played, Advances, StopsAt};
 
 use crate::key::{Key, KeyGuard};
 use crate::registers_at::set_item;
-use crate::runs::run_at;
 use crate::store_at::deposit_at;
 use bus::meaning::Bus;
 use model::{Denial, Record};
 use processor::cpu::Core;
 use queue::Queue;
+use steps::run::run;
 use store::meaning::Store;
-use tape::commands::{Command, read_command};
+use tape::commands::read_command;
 use tape::faults::Located;
 use tape::orders::{Order, TapeFault};
 
-/// Obeys one command; with the key ON no call is denied for the key.
+/// Obeys one command, and answers the address of the next deposit, which is at `address` before. With the key ON no call is denied
+/// for the key.
 fn obey<S: Store, B: Bus>(
     core: &mut Core<S, B>,
     order: Order,
+    address: u32,
     trace: &mut Queue<'_, Record>,
-) -> Result<(), Denial>
-    ensures does { Obeyed S.Store.meaning B.Bus.devices order core.old trace.old result core.new trace.new }
-    ensures low { Low order result }
+) -> Result<u32, Denial>
+    ensures does { Obeyed S.Store.meaning B.Bus.devices address order core.old trace.old result core.new trace.new }
+    ensures next { IfOk result (λ n. n ≡ next_of address order) }
     ensures same { SameSlots trace.old trace.new }
+    ensures extended { Extended trace.old trace.new }
 {
     match order {
-        Order::Point => Ok(()),
-        Order::Deposit(address, word) => deposit_at(core, address, word),
-        Order::Set(item, value) => set_item(core, item, value),
+        Order::Point(next) => Ok(next),
+        Order::Deposit(word) => {
+            deposit_at(core, address, word)?;
+            Ok(address + 2)
+        }
+        Order::Set(item, value) => {
+            set_item(core, item, value)?;
+            Ok(address)
+        }
         Order::Go(count) => {
-            run_at(core, count, trace)?;
-            Ok(())
+            run(core, trace, count)?;
+            Ok(address)
         }
     }
+}
+
+/// The address of the next deposit, and the bytes that are still to be read.
+#[derive(Clone, Copy)]
+struct Reader<'t> {
+    address: u32,
+    rest: &'t [u8],
 }
 
 /// Reads the command at a letter and obeys it.
@@ -43,17 +60,20 @@ fn obey_next<'t, S: Store, B: Bus>(
     bytes: &'t [u8],
     address: u32,
     trace: &mut Queue<'_, Record>,
-) -> Result<Command<'t>, Denial>
-    requires { address ≤ 2 ^ 24 }
+) -> Result<Reader<'t>, Denial>
     ensures does { MatchResult result
-        (λ c. Advances S.Store.meaning B.Bus.devices letter bytes.now address core.old trace.old c.rest.now c.next core.new trace.new)
+        (λ r. Advances S.Store.meaning B.Bus.devices letter bytes.now address core.old trace.old r.rest.now r.address core.new trace.new)
         (λ d. StopsAt S.Store.meaning B.Bus.devices letter bytes.now address core.old trace.old d core.new trace.new) }
-    ensures low { IfOk result (λ c. (c.next ≤ 2 ^ 24) × (length c.rest.now ≤ length bytes.now)) }
+    ensures shorter { IfOk result (λ r. length r.rest.now ≤ length bytes.now) }
     ensures same { SameSlots trace.old trace.new }
+    ensures extended { Extended trace.old trace.new }
 {
-    let command = read_command(letter, address, bytes)?;
-    obey(core, command.order, trace)?;
-    Ok(command)
+    let command = read_command(letter, bytes)?;
+    let address = obey(core, command.order, address, trace)?;
+    Ok(Reader {
+        address,
+        rest: command.rest,
+    })
 }
 
 // while let and a count, no iterator: a slice pattern takes the letter (a rule of the project), and a command takes as many bytes as its operand has.
@@ -65,6 +85,7 @@ fn obey_all<S: Store, B: Bus>(
 ) -> Result<usize, TapeFault>
     ensures played { Played S.Store.meaning B.Bus.devices tape.now core.old trace.old result core.new trace.new }
     ensures same { SameSlots trace.old trace.new }
+    ensures extended { Extended trace.old trace.new }
 {
     let mut rest = tape;
     let mut address = 0;
@@ -72,14 +93,14 @@ fn obey_all<S: Store, B: Bus>(
     while let [letter, bytes @ ..] = rest {
         let place = tape.len() - rest.len();
         let letter = *letter;
-        let command = obey_next(core, letter, bytes, address, trace).map_err(|denial| Located {
+        let next = obey_next(core, letter, bytes, address, trace).map_err(|denial| Located {
             denial,
             place,
             letter,
         })?;
-        address = command.next;
+        address = next.address;
         obeyed += 1;
-        rest = command.rest;
+        rest = next.rest;
     }
     Ok(obeyed)
 }
@@ -94,6 +115,7 @@ pub(crate) fn play_on<S: Store, B: Bus>(
     ensures back { key.new ≡ key.old }
     ensures played { Played S.Store.meaning B.Bus.devices tape.now core.old trace.old result core.new trace.new }
     ensures same { SameSlots trace.old trace.new }
+    ensures extended { Extended trace.old trace.new }
 {
     let _guard = KeyGuard::turn_on(key);
     obey_all(core, tape, trace)

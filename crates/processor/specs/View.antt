@@ -25,6 +25,11 @@ abbrev pub out₀ : Result (Unit {0}) Trap → State → Out
 out₀ (Ok u) s = went 0 s
 out₀ (Err e) s = stopped e s
 
+-- Two cores have the same store and the same bus: the values themselves, not only what they mean.
+pub record SameParts {S B : Type 0} (old new : Core S B) : Type 0 where
+  pub store : new.store ≡ old.store
+  pub bus : new.bus ≡ old.bus
+
 module _ {S B : Type 0} (meaning : S → Store) (devices : B → Bus) where
   -- The state that a core is in.
   abbrev pub state_of : Core S B → State

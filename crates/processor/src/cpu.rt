@@ -52,6 +52,14 @@ impl<S: Store, B: Bus> Core<S, B> {
         }
     }
 
+    /// Takes the processor apart: its store and its bus, as they are.
+    pub fn into_parts(self) -> (S, B)
+        ensures store { result.0 ≡ self.store }
+        ensures bus { result.1 ≡ self.bus }
+    {
+        (self.store, self.bus)
+    }
+
     /// A register of the selected set; register numbers wrap at 16.
     pub fn reg(&self, number: u8) -> u32
         ensures { Shows S.Store.meaning B.Bus.devices (reg number) self.now result }

@@ -1,6 +1,6 @@
 -- What a queue holds, item by item, and what a push and a pop do to it.
-use Rattle.std.proofs.Common.{◌≡◌, ℕ, ◌+◌, ◌-◌, ◌<◌, min, ◌⊎◌, List, [], ◌∷◌, ◌++◌, length, get_or, take, drop, set, ap₂, ◌∙◌, arith, length-append, length-drop, length-set, length-take}
-use Rattle.std.proofs.lemmas.List.{places, same_lists, drop_more}
+use Rattle.std.proofs.Common.{◌≡◌, ℕ, ◌+◌, ◌-◌, ◌<◌, min, ◌⊎◌, List, [], ◌∷◌, ◌++◌, length, get_or, take, drop, set, ap, ap₂, refl, ◌∙◌, arith, length-append, length-drop, length-set, length-take}
+use Rattle.std.proofs.lemmas.List.{places, same_lists, drop_more, take_at}
 use Rattle.std.proofs.lemmas.Grind.{get_or-set_at}
 use Rattle.queue.specs.Rows.{held}
 
@@ -9,7 +9,7 @@ module _ {X : Type 0} where
   unfolding held
   held_length xs h m = simp (length-take, length-drop, length-append) (omega arith)
 
-  held_item : (xs : List X) (h m k : ℕ) (d : X) → k < min m (length xs) → get_or (held xs h m) k d ≡ get_or (xs ++ xs) (min h (length xs) + k) d
+  pub held_item : (xs : List X) (h m k : ℕ) (d : X) → k < min m (length xs) → get_or (held xs h m) k d ≡ get_or (xs ++ xs) (min h (length xs) + k) d
   unfolding held
   held_item xs h m k d l = grind (arith, places)
 
@@ -30,6 +30,23 @@ module _ {X : Type 0} (xs : List X) (h m i n : ℕ) (start : i ≡ min h (length
       let new_length = held_length ys i (n + 1) in
       same_lists _ _ (simp length-append (omega arith))
       (λ k d l. grind (arith, places, get_or-set_at, held_item ys i (n + 1) k d, held_item xs h m k d))
+
+  pub taken_push : (at : ℕ) (v : X) → n < length xs → at < length xs → (at ≡ i + n) ⊎ (at + length xs ≡ i + n) → take (length (held xs h m)) (held (set xs at v) i (n + 1)) ≡ held xs h m
+  taken_push at v room inside turned =
+      ap (λ (l : List X). take (length (held xs h m)) l) (held_push at v room inside turned) ∙ take_at (held xs h m) (v ∷ []) (length (held xs h m)) refl
+
+  -- All slots after a push, from the oldest item's on: what waits, and behind it what they held.
+  pub turned_push :
+      (at : ℕ) (v : X) → n < length xs → at < length xs → (at ≡ i + n) ⊎ (at + length xs ≡ i + n) →
+      held (set xs at v) i (length (set xs at v)) ≡ held (set xs at v) i (n + 1) ++ drop (length (held (set xs at v) i (n + 1))) (held xs h (length xs))
+  turned_push at v room inside turned =
+      let ys = set xs at v in
+      let same_length = length-set xs at v in
+      let old_length = held_length xs h (length xs) in
+      let all_length = held_length ys i (length ys) in
+      let new_length = held_length ys i (n + 1) in
+      same_lists _ _ (simp (length-append, length-drop) (omega arith))
+      (λ k d l. grind (arith, places, get_or-set_at, held_item ys i (length ys) k d, held_item ys i (n + 1) k d, held_item xs h (length xs) k d))
 
   pub held_pop : (at : ℕ) (d : X) → 0 < n → at < length xs → (at ≡ i + 0) ⊎ (at + length xs ≡ i + 0) → held xs h m ≡ get_or xs at d ∷ held xs (at + 1) (n - 1)
   held_pop at d some inside turned =

@@ -1,9 +1,9 @@
 //! A queue over lent slots: first in, first out.
 #![tactic(auto)]
 
-ghost use Rattle.std.specs.Prelude.{◌≡◌, ◌+◌, ◌-◌, ◌<◌, ◌≤◌, ◌↔◌, min, ◌⊎◌, [], ◌∷◌, ◌++◌, length, drop, MatchOption, IsOk, IfErr, OnOk, ◌==◌, nat_le, slice_index_or};
+ghost use Rattle.std.specs.Prelude.{◌≡◌, ◌+◌, ◌-◌, ◌%◌, ◌<◌, ◌≤◌, ◌↔◌, min, ◌⊎◌, [], ◌∷◌, ◌++◌, length, drop, MatchOption, IsOk, IfErr, OnOk, ◌==◌, nat_le, slice_index_or, slice_set};
 ghost use Rattle.std.specs.Iterator.{YieldsFirstRef, item_count};
-ghost use Rattle.queue.specs.Rows.{queued, capacity, unread, HasRoom, SameSlots};
+ghost use Rattle.queue.specs.Rows.{queued, capacity, first_slot, free_slot, unread, HasRoom, SameSlots, Extended};
 
 // Lent slots with a count beside them, and no invariant: a rule of the project, since the memory is the caller's.
 /// A queue over lent slots, the oldest item at `head`.
@@ -19,6 +19,7 @@ fn place(head: usize, index: usize, size: usize) -> usize
     requires { (head ≤ size) × (index < size) }
     ensures inside { result < size }
     ensures turned { (result ≡ head + index) ⊎ (result + size ≡ head + index) }
+    ensures round { result ≡ (head + index) % size }
 {
     let room = size - head;
     if index < room {
@@ -43,6 +44,8 @@ impl<'a, X: Copy> Queue<'a, X> {
         ensures empty { queued result ≡ [] }
         ensures room { capacity result ≡ length slots.old }
         ensures same { result.slots.ghost_name ≡ slots.entry.ghost_name }
+        ensures slots { result.slots.now ≡ slots.old }
+        ensures first { first_slot result ≡ 0 }
     {
         Queue {
             slots,
@@ -94,6 +97,8 @@ impl<'a, X: Copy> Queue<'a, X> {
         ensures refused { IfErr result (λ x. (x ≡ item) × (self.new ≡ self.old)) }
         ensures pushed { OnOk result (queued self.new ≡ queued self.old ++ item ∷ []) }
         ensures same { SameSlots self.old self.new }
+        ensures slots { OnOk result (self.new.slots.now ≡ slice_set self.old.slots.now (free_slot self.old) item) }
+        ensures extended { Extended self.old self.new }
     {
         let n = self.len();
         if n >= self.slots.len() {
@@ -112,6 +117,7 @@ impl<'a, X: Copy> Queue<'a, X> {
     pub fn pop(&mut self) -> Option<X>
         ensures popped { MatchOption result ((queued self.old ≡ []) × (self.new ≡ self.old)) (λ x. queued self.old ≡ x ∷ queued self.new) }
         ensures same { SameSlots self.old self.new }
+        ensures slots { self.new.slots.now ≡ self.old.slots.now }
     {
         let n = self.len();
         if n == 0 {

@@ -1,10 +1,13 @@
-ghost use Rattle.std.specs.Prelude.{◌<◌};
-ghost use Rattle.queue.specs.Rows.{HasRoom, SameSlots};
-ghost use Rattle.steps.specs.View.{Runs};
+ghost use Rattle.std.specs.Prelude.{◌≡◌, ◌-◌, ◌<◌, length, IfOk, OnErr};
+ghost use Rattle.queue.specs.Rows.{queued, capacity, HasRoom, SameSlots, Extended};
+ghost use Rattle.model.specs.Console.{or_else, room_denial};
+ghost use Rattle.model.specs.Runs.{count_denial};
+ghost use Rattle.instructions.specs.Instructions.{instruction};
+ghost use Rattle.steps.specs.View.{refusal, Runs};
 
-use crate::step::step;
+use crate::step::{check_room, step_with_room};
 use bus::meaning::Bus;
-use model::{Reason, Record, StepAnswer};
+use model::{Denial, Reason, Record, StepAnswer};
 use processor::cpu::Core;
 use queue::Queue;
 use store::meaning::Store;
@@ -16,8 +19,22 @@ pub struct RunAnswer {
     pub reason: Reason,
 }
 
-/// Steps until one waits, the trace is full or the count is reached.
-pub fn run<S: Store, B: Bus>(
+/// The greatest count of a run.
+pub const MOST_STEPS: u32 = 1_000_000;
+
+/// Denies a count of 0 or over 1,000,000.
+fn check_count(count: u32) -> Result<(), Denial>
+    ensures { refusal result ≡ count_denial instruction count }
+{
+    if (1..=MOST_STEPS).contains(&count) {
+        Ok(())
+    } else {
+        Err(Denial::OutOfRange)
+    }
+}
+
+/// A run of a count that is not 0, where the trace has room.
+fn run_with_room<S: Store, B: Bus>(
     m: &mut Core<S, B>,
     trace: &mut Queue<'_, Record>,
     count: u32,
@@ -26,9 +43,10 @@ pub fn run<S: Store, B: Bus>(
     requires some { 0 < count }
     ensures does { Runs S.Store.meaning B.Bus.devices count result.steps result.reason m.old trace.old m.new trace.new }
     ensures same { SameSlots trace.old trace.new }
+    ensures extended { Extended trace.old trace.new }
 {
     for steps in 1..=count {
-        let answer = step(m, trace);
+        let answer = step_with_room(m, trace);
         if answer == StepAnswer::Waiting {
             return RunAnswer {
                 steps,
@@ -46,4 +64,23 @@ pub fn run<S: Store, B: Bus>(
         steps: count,
         reason: Reason::Counted,
     }
+}
+
+/// Steps until one waits, the trace is full or the count is reached. A count of 0 or over 1,000,000 is denied, and then a trace
+/// without room; then nothing changes.
+pub fn run<S: Store, B: Bus>(
+    m: &mut Core<S, B>,
+    trace: &mut Queue<'_, Record>,
+    count: u32,
+) -> Result<RunAnswer, Denial>
+    ensures refused { refusal result ≡ or_else (count_denial instruction count) (room_denial (capacity trace.old - length (queued trace.old))) }
+    ensures does { IfOk result (λ a. Runs S.Store.meaning B.Bus.devices count a.steps a.reason m.old trace.old m.new trace.new) }
+    ensures denied { OnErr result (m.new ≡ m.old) }
+    ensures denied_trace { OnErr result (trace.new ≡ trace.old) }
+    ensures same { SameSlots trace.old trace.new }
+    ensures extended { Extended trace.old trace.new }
+{
+    check_count(count)?;
+    check_room(trace)?;
+    Ok(run_with_room(m, trace, count))
 }

@@ -1,26 +1,28 @@
-ghost use Rattle.std.specs.Prelude.{◌≡◌, [], ◌∷◌, ◌++◌};
-ghost use Rattle.queue.specs.Rows.{queued, HasRoom, SameSlots};
+ghost use Rattle.std.specs.Prelude.{◌≡◌, ◌-◌, [], ◌∷◌, ◌++◌, length, IfOk, OnErr};
+ghost use Rattle.queue.specs.Rows.{queued, capacity, HasRoom, SameSlots, Extended};
+ghost use Rattle.model.specs.Console.{room_denial};
 ghost use Rattle.model.specs.Steps.{took, ended, cycle, proceeded};
 ghost use Rattle.processor.specs.View.{state_of, out₀, Does};
 ghost use Rattle.instructions.specs.Instructions.{instruction};
-ghost use Rattle.steps.specs.View.{Ends, Steps};
+ghost use Rattle.steps.specs.View.{refusal, Ends, Steps};
 
 use bus::meaning::Bus;
 use instructions::execute::execute;
-use model::{Cause, Record, StepAnswer, Trap};
+use model::{Cause, Denial, Record, StepAnswer, Trap};
 use processor::cpu::Core;
 use processor::interrupts::{ACCESS_VECTOR, ARITHMETIC_VECTOR, ILLEGAL_VECTOR};
 use queue::Queue;
 use registers::words::ProgramAddress;
 use store::meaning::Store;
 
-// HasRoom and SameSlots stand in each contract: the trace is passed to each call (a rule of the project), so no type can hold it and promise them once.
+// SameSlots and Extended stand in each contract: the trace is passed to each call (a rule of the project), so no type can hold it and promise them once.
 /// Adds the record of an interrupt to the trace.
 fn note(trace: &mut Queue<'_, Record>, entry: Record) -> StepAnswer
     requires room { HasRoom trace.old }
     ensures answer { result ≡ StepAnswer.Interrupted entry.cause }
     ensures noted { queued trace.new ≡ queued trace.old ++ entry ∷ [] }
     ensures same { SameSlots trace.old trace.new }
+    ensures extended { Extended trace.old trace.new }
 {
     trace.push(entry).unwrap();
     StepAnswer::Interrupted(entry.cause)
@@ -37,6 +39,7 @@ fn finish<S: Store, B: Bus>(
     ensures does { Ends S.Store.meaning B.Bus.devices (ended own.at (out₀ end (state_of S.Store.meaning B.Bus.devices m.old))) trace.old result m.new trace.new }
     ensures quiet { m.new.bus ≡ m.old.bus }
     ensures same { SameSlots trace.old trace.new }
+    ensures extended { Extended trace.old trace.new }
 {
     let next = m.location();
     match end {
@@ -70,6 +73,7 @@ fn proceed<S: Store, B: Bus>(m: &mut Core<S, B>, trace: &mut Queue<'_, Record>) 
     requires room { HasRoom trace.old }
     ensures does { Ends S.Store.meaning B.Bus.devices (proceeded instruction (B.Bus.devices m.new.bus) (state_of S.Store.meaning B.Bus.devices m.old)) trace.old result m.new trace.new }
     ensures same { SameSlots trace.old trace.new }
+    ensures extended { Extended trace.old trace.new }
 {
     if m.psw().waits() {
         return StepAnswer::Waiting;
@@ -80,11 +84,15 @@ fn proceed<S: Store, B: Bus>(m: &mut Core<S, B>, trace: &mut Queue<'_, Record>) 
     finish(m, trace, own, end)
 }
 
-/// Makes one step, and adds a record to the trace if it takes an interrupt.
-pub fn step<S: Store, B: Bus>(m: &mut Core<S, B>, trace: &mut Queue<'_, Record>) -> StepAnswer
+/// A step, where the trace has room.
+pub(crate) fn step_with_room<S: Store, B: Bus>(
+    m: &mut Core<S, B>,
+    trace: &mut Queue<'_, Record>,
+) -> StepAnswer
     requires room { HasRoom trace.old }
     ensures does { Steps S.Store.meaning B.Bus.devices m.old trace.old result m.new trace.new }
     ensures same { SameSlots trace.old trace.new }
+    ensures extended { Extended trace.old trace.new }
 {
     if m.psw().polls()
         && let Some(device) = m.requesting()
@@ -92,4 +100,31 @@ pub fn step<S: Store, B: Bus>(m: &mut Core<S, B>, trace: &mut Queue<'_, Record>)
         return note(trace, m.attend(device));
     }
     proceed(m, trace)
+}
+
+/// Denies a trace without room.
+pub(crate) fn check_room(trace: &Queue<'_, Record>) -> Result<(), Denial>
+    ensures { refusal result ≡ room_denial (capacity trace.now - length (queued trace.now)) }
+{
+    if trace.is_full() {
+        Err(Denial::TraceFull)
+    } else {
+        Ok(())
+    }
+}
+
+/// Makes one step, and adds a record to the trace if it takes an interrupt. A trace without room is denied, and then nothing changes.
+pub fn step<S: Store, B: Bus>(
+    m: &mut Core<S, B>,
+    trace: &mut Queue<'_, Record>,
+) -> Result<StepAnswer, Denial>
+    ensures refused { refusal result ≡ room_denial (capacity trace.old - length (queued trace.old)) }
+    ensures does { IfOk result (λ a. Steps S.Store.meaning B.Bus.devices m.old trace.old a m.new trace.new) }
+    ensures denied { OnErr result (m.new ≡ m.old) }
+    ensures denied_trace { OnErr result (trace.new ≡ trace.old) }
+    ensures same { SameSlots trace.old trace.new }
+    ensures extended { Extended trace.old trace.new }
+{
+    check_room(trace)?;
+    Ok(step_with_room(m, trace))
 }

@@ -1,7 +1,6 @@
 ghost use Rattle.std.specs.Prelude.{◌≡◌, ◌^◌, ◌<◌, ◌≤◌, length, drop, MatchResult, slice_index};
-ghost use Rattle.model.specs.Answers.{number};
 ghost use Rattle.model.specs.Tapes.{four as four_of};
-ghost use Rattle.tape.specs.Commands.{number_of, order_of, Whole, Broken, NextTo};
+ghost use Rattle.tape.specs.Commands.{number_of, Whole, Broken};
 
 use crate::orders::Order;
 use model::{Denial, Item};
@@ -38,69 +37,53 @@ fn take_numbered(bytes: &[u8]) -> Result<(u8, Operand<'_>), Denial>
     Ok((*number, take_operand::<4>(behind)?))
 }
 
-/// A command read from a tape: its order, the address of the next deposit, and the bytes behind it.
+/// A command read from a tape: its order, and the bytes behind it.
 #[derive(Clone, Copy)]
 pub struct Command<'t> {
     pub order: Order,
-    pub next: u32,
     pub rest: &'t [u8],
 }
 
-/// Reads the command of a letter; `address` is that of the next deposit, at most X'1000000'.
+/// Reads the command of a letter from the bytes behind it: denied where the letter is none, and then where the bytes cut its operand
+/// short.
 #[tactic(auto, unfolding(model::specs::Tapes::command_of))]
-pub fn read_command(letter: u8, address: u32, bytes: &[u8]) -> Result<Command<'_>, Denial>
-    ensures { address ≤ 2 ^ 24 → MatchResult result (λ c. Whole letter address bytes.now (order_of c.order) c.next c.rest.now × NextTo c.order c.next) (λ d. Broken letter address bytes.now (number d)) }
+pub fn read_command(letter: u8, bytes: &[u8]) -> Result<Command<'_>, Denial>
+    ensures { MatchResult result (λ c. Whole letter bytes.now c.order c.rest.now) (λ d. Broken letter bytes.now d) }
 {
-    let (order, next, rest) = match char::from(letter) {
+    let (order, operand) = match char::from(letter) {
         'A' => {
-            let operand = take_operand::<3>(bytes)?;
-            (Order::Point, operand.value, operand.rest)
+            let address = take_operand::<3>(bytes)?;
+            (Order::Point(address.value), address)
         }
         'D' => {
-            let operand = take_operand::<2>(bytes)?;
-            (
-                Order::Deposit(address, operand.value as u16),
-                address.saturating_add(2),
-                operand.rest,
-            )
+            let word = take_operand::<2>(bytes)?;
+            (Order::Deposit(word.value as u16), word)
         }
         'R' => {
-            let (number, operand) = take_numbered(bytes)?;
-            (
-                Order::Set(Item::General(number / 16, number % 16), operand.value),
-                address,
-                operand.rest,
-            )
+            let (number, value) = take_numbered(bytes)?;
+            let register = Item::General(number / 16, number % 16);
+            (Order::Set(register, value.value), value)
         }
         'S' => {
-            let (number, operand) = take_numbered(bytes)?;
-            (
-                Order::Set(Item::Segment(number), operand.value),
-                address,
-                operand.rest,
-            )
+            let (number, value) = take_numbered(bytes)?;
+            (Order::Set(Item::Segment(number), value.value), value)
         }
         'P' => {
-            let operand = take_operand::<4>(bytes)?;
-            (
-                Order::Set(Item::Status, operand.value),
-                address,
-                operand.rest,
-            )
+            let status = take_operand::<4>(bytes)?;
+            (Order::Set(Item::Status, status.value), status)
         }
         'L' => {
-            let operand = take_operand::<3>(bytes)?;
-            (
-                Order::Set(Item::Location, operand.value),
-                address,
-                operand.rest,
-            )
+            let location = take_operand::<3>(bytes)?;
+            (Order::Set(Item::Location, location.value), location)
         }
         'G' => {
-            let operand = take_operand::<3>(bytes)?;
-            (Order::Go(operand.value), address, operand.rest)
+            let count = take_operand::<3>(bytes)?;
+            (Order::Go(count.value), count)
         }
         _ => return Err(Denial::UnknownLetter),
     };
-    Ok(Command { order, next, rest })
+    Ok(Command {
+        order,
+        rest: operand.rest,
+    })
 }

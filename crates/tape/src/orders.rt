@@ -4,9 +4,9 @@ use model::{Denial, Item};
 #[derive(Clone, Copy, Debug, PartialEq, Eq)]
 pub enum Order {
     /// Another address for the deposits to come.
-    Point,
-    /// A deposit at an address.
-    Deposit(u32, u16),
+    Point(u32),
+    /// A deposit at that address.
+    Deposit(u16),
     /// A register and its new number.
     Set(Item, u32),
     /// A run with a count.

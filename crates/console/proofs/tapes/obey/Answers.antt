@@ -1,5 +1,6 @@
 use Rattle.std.proofs.Common.{sym, refl, subst, rules}
 use Rattle.queue.specs.Rows.{queued, capacity}
+use Rattle.queue.proofs.Extensions.{extended_same}
 use Rattle.model.specs.Answers.{done, ran}
 use Rattle.model.specs.Console.{deposit, set_item}
 use Rattle.model.specs.Tapes.{Obeys}
@@ -14,21 +15,34 @@ use Rattle.console.proofs.tapes.obey.Goals as goal
 pub returns-in-Point-clause-does : goal.returns-in-Point-clause-does
 returns-in-Point-clause-does g c = (done, search rules, refl)
 
-pub returns-in-Deposit-clause-does : goal.returns-in-Deposit-clause-does
-returns-in-Deposit-clause-does g c =
-    obeyed_call g.S.Store.meaning g.B.Bus.devices c.args.order (deposit c.in-Deposit.address c.in-Deposit.word) c.args.core.now c.deposit_at.new.core c.args.trace.now c.deposit_at.result (search rules) (search rules)
+pub returns-in_ok-deposit_at-in-Deposit-clause-does : goal.returns-in_ok-deposit_at-in-Deposit-clause-does
+returns-in_ok-deposit_at-in-Deposit-clause-does g c = (done, search rules, refl)
 
-pub returns-in-Set-clause-does : goal.returns-in-Set-clause-does
-returns-in-Set-clause-does g c =
-    obeyed_call g.S.Store.meaning g.B.Bus.devices c.args.order (set_item c.in-Set.item c.in-Set.value) c.args.core.now c.set_item.new.core c.args.trace.now c.set_item.result (search rules) (search rules)
+pub returns-in_ok-set_item-in-Set-clause-does : goal.returns-in_ok-set_item-in-Set-clause-does
+returns-in_ok-set_item-in-Set-clause-does g c = (done, search rules, refl)
 
-pub returns-in_ok-run_at-in-Go-clause-does : goal.returns-in_ok-run_at-in-Go-clause-does
-returns-in_ok-run_at-in-Go-clause-does g c =
-    let a = c.in_ok-run_at-in-Go.field-0 in
+pub returns-in_ok-run-in-Go-clause-does : goal.returns-in_ok-run-in-Go-clause-does
+returns-in_ok-run-in-Go-clause-does g c =
+    let a = c.in_ok-run-in-Go.field-0 in
     let w = on_desk g.S.Store.meaning g.B.Bus.devices c.args.core.now in
-    let v = on_desk g.S.Store.meaning g.B.Bus.devices c.run_at.new.core in
+    let v = on_desk g.S.Store.meaning g.B.Bus.devices c.run.new.m in
     let q = queued c.args.trace.now in
-    let p = queued c.run_at.new.trace in
+    let p = queued c.run.new.trace in
     let cap = capacity c.args.trace.now in
-    let made = run_made instruction _ _ _ c.in-Go.count _ w q (ran a.steps a.reason) v p (sym c.in_ok-run_at-in-Go.ensures.refused) refl refl c.in_ok-run_at-in-Go.ensures.does in
-    (ran a.steps a.reason, subst (λ (o : Order). Obeys instruction cap (order_of o) w q (ran a.steps a.reason) v p) (sym c.in-Go.is) made, refl)
+    let made = run_made instruction _ _ _ c.in-Go.count _ w q (ran a.steps a.reason) v p (sym c.in_ok-run-in-Go.ensures.refused) refl refl c.in_ok-run-in-Go.ensures.does in
+    (ran a.steps a.reason, subst (λ (o : Order). Obeys instruction cap (order_of c.args.address o) w q (ran a.steps a.reason) v p) (sym c.in-Go.is) made, refl)
+
+pub returns-in-Point-clause-extended : goal.returns-in-Point-clause-extended
+returns-in-Point-clause-extended g c = extended_same _
+
+pub returns-in_ok-deposit_at-in-Deposit-clause-extended : goal.returns-in_ok-deposit_at-in-Deposit-clause-extended
+returns-in_ok-deposit_at-in-Deposit-clause-extended g c = extended_same _
+
+pub returns-in_err-deposit_at-in-Deposit-clause-extended : goal.returns-in_err-deposit_at-in-Deposit-clause-extended
+returns-in_err-deposit_at-in-Deposit-clause-extended g c = extended_same _
+
+pub returns-in_ok-set_item-in-Set-clause-extended : goal.returns-in_ok-set_item-in-Set-clause-extended
+returns-in_ok-set_item-in-Set-clause-extended g c = extended_same _
+
+pub returns-in_err-set_item-in-Set-clause-extended : goal.returns-in_err-set_item-in-Set-clause-extended
+returns-in_err-set_item-in-Set-clause-extended g c = extended_same _

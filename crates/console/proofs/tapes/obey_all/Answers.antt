@@ -1,5 +1,6 @@
 use Rattle.std.proofs.Common.{◌≡◌, ◌-◌, ◌≤◌, length, get_or, Some, sym, ap, subst, arith, rules}
 use Rattle.queue.specs.Rows.{queued, capacity}
+use Rattle.queue.proofs.Extensions.{extended_same, extended_twice}
 use Rattle.model.specs.Answers.{number, Answer, faulted}
 use Rattle.model.specs.Tapes.{spell, Playing}
 use Rattle.instructions.specs.Instructions.{instruction}
@@ -8,11 +9,11 @@ use Rattle.std.proofs.lemmas.Result.{MatchResult-at_ok, MatchResult-at_err, IfOk
 use Rattle.console.proofs.TapeCalls.{mapped_ok, mapped_err, front, to_the_end, to_a_stop, to_the_next}
 use Rattle.console.proofs.tapes.obey_all.Goals as goal
 
-pub returns-in_err-command-clause-played : goal.returns-in_err-command-clause-played
-returns-in_err-command-clause-played g c =
+pub returns-in_err-next-clause-played : goal.returns-in_err-next-clause-played
+returns-in_err-next-clause-played g c =
     let inv = c.loop-rest.invariant in
     let some : 1 ≤ length c.loop-rest.rest.now = search rules in
-    let m = mapped_err _ c.obey_next.result c.map_err.result c.in_err-command.field-0.0 c.map_err.ensures.cases (c.in_err-command.was {u = tt}) in
+    let m = mapped_err _ c.obey_next.result c.map_err.result c.in_err-next.field-0.0 c.map_err.ensures.cases (c.in_err-next.was {u = tt}) in
     let z = m.2 in
     let rest = c.loop-rest.rest.now in
     let place = length c.args.tape.now - length rest in
@@ -28,17 +29,29 @@ loop-rest-preserved g c =
     let inv = c.loop-rest.invariant in
     let rest = c.loop-rest.rest.now in
     let some : 1 ≤ length rest = search rules in
-    let m = mapped_ok _ c.obey_next.result c.map_err.result c.in_ok-command.command c.map_err.ensures.cases (c.in_ok-command.was {u = tt}) in
+    let m = mapped_ok _ c.obey_next.result c.map_err.result c.in_ok-next.next c.map_err.ensures.cases (c.in_ok-next.was {u = tt}) in
     let one = MatchResult-at_ok _ _ _ m c.obey_next.ensures.does in
-    let low = IfOk-at_ok _ m c.obey_next.ensures.low in
+    let shorter = IfOk-at_ok _ m c.obey_next.ensures.shorter in
     let e = front rest some in
     record {
-      goes = to_the_next instruction _ _ _ _ rest _ c.loop-rest.address c.loop-rest.obeyed _ _ _ _ _ _ _ _ _ _ _ inv.goes inv.same.size e (omega (arith, ap length e, low.1, inv.part)) (one _);
-      low = low.0;
-      part = omega (arith, low.1, ap length e, inv.part);
+      goes = to_the_next instruction _ _ _ _ rest _ c.loop-rest.address c.loop-rest.obeyed _ _ _ _ _ _ _ _ _ _ _ inv.goes inv.same.size e (omega (arith, ap length e, shorter, inv.part)) (one _);
+      part = omega (arith, shorter, ap length e, inv.part);
       same = search rules;
+      extended = search (rules, extended_twice);
     }
 
 pub returns-clause-played : goal.returns-clause-played
 returns-clause-played g c =
     to_the_end instruction _ _ _ _ c.loop-rest.rest.now _ c.loop-rest.address c.loop-rest.obeyed _ _ c.loop-rest.invariant.goes (search rules)
+
+pub returns-in_err-next-clause-extended : goal.returns-in_err-next-clause-extended
+returns-in_err-next-clause-extended g c = search (rules, extended_twice)
+
+pub loop-rest-init : goal.loop-rest-init
+loop-rest-init g c =
+    record {
+      goes = search rules;
+      part = search rules;
+      same = search rules;
+      extended = extended_same _;
+    }

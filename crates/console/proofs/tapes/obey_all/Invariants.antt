@@ -1,5 +1,5 @@
-use Rattle.std.proofs.Common.{◌-◌, ◌+◌, ◌^◌, ◌≤◌, List, length}
-use Rattle.queue.specs.Rows.{queued, capacity, SameSlots}
+use Rattle.std.proofs.Common.{◌-◌, ◌+◌, ◌≤◌, List, length}
+use Rattle.queue.specs.Rows.{queued, capacity, SameSlots, Extended}
 use Rattle.model.specs.declared.Record.{Record}
 use Rattle.model.specs.Answers.{Answer}
 use Rattle.model.specs.Console.{Desk}
@@ -18,9 +18,9 @@ invariant-loop-rest g l =
           (on_desk g.S.Store.meaning g.B.Bus.devices l.core) (queued l.trace) x v p →
           Playing instruction (capacity l.initial.trace) (spell l.tape) 0
           (on_desk g.S.Store.meaning g.B.Bus.devices l.initial.core) (queued l.initial.trace) x v p;
-      low : l.address ≤ 2 ^ 24;
       part : l.obeyed + length l.rest ≤ length l.tape;
       same : SameSlots l.initial.trace l.trace;
+      extended : Extended l.initial.trace l.trace;
     }
 
 abbrev pub decreases-loop-rest : goal.decreases-loop-rest

@@ -1,12 +1,8 @@
-use Rattle.std.proofs.Common.{rules}
-use Rattle.steps.proofs.Chains.{no_steps, one_more, all_made}
+use Rattle.queue.proofs.Extensions.{extended_same}
 use Rattle.steps.proofs.run.run.Goals as goal
 
-pub loop-steps-init : goal.loop-steps-init
-loop-steps-init g c = search (rules, no_steps)
+pub returns-in_err-check_count-clause-extended : goal.returns-in_err-check_count-clause-extended
+returns-in_err-check_count-clause-extended g c = extended_same _
 
-pub loop-steps-preserved : goal.loop-steps-preserved
-loop-steps-preserved g c = search (rules, one_more)
-
-pub returns : goal.returns
-returns g c = search (rules, all_made)
+pub returns-in_err-check_room-clause-extended : goal.returns-in_err-check_room-clause-extended
+returns-in_err-check_room-clause-extended g c = extended_same _

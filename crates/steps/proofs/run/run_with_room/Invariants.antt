@@ -1,9 +1,9 @@
 use Rattle.std.proofs.Common.{◌-◌}
-use Rattle.queue.specs.Rows.{queued, capacity, HasRoom, SameSlots}
+use Rattle.queue.specs.Rows.{queued, capacity, HasRoom, SameSlots, Extended}
 use Rattle.model.specs.Runs.{Steps}
 use Rattle.processor.specs.View.{state_of}
 use Rattle.instructions.specs.Instructions.{instruction}
-use Rattle.steps.proofs.run.run.Given as goal
+use Rattle.steps.proofs.run.run_with_room.Given as goal
 
 -- the steps made so far, none of which stopped the run
 abbrev pub invariant-loop-steps : goal.invariant-loop-steps
@@ -15,4 +15,5 @@ invariant-loop-steps g l =
           (state_of g.S.Store.meaning g.B.Bus.devices l.m) (queued l.trace);
       room : HasRoom l.trace;
       same : SameSlots l.initial.trace l.trace;
+      extended : Extended l.initial.trace l.trace;
     }
