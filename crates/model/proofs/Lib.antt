@@ -1,5 +1,6 @@
 pub mod Views
 pub mod Effects
+pub mod Interrupts
 pub mod Steps
 pub mod Histories
 pub mod Calls

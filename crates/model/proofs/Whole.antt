@@ -112,8 +112,8 @@ pub isolation_of_any : IsolationOfAny
 isolation_of_any meaning w v m n a l k p q =
     let h = alike_twin w.core v.core a m n in
     let x = by_address meaning w v h l k p q in
-    let one = λ (i : ℕ). confined meaning w (take i l) a.one_protects (allowed_part meaning i l w p) in
-    let other = λ (j : ℕ). confined meaning v (take j k) a.other_protects (allowed_part meaning j k v q) in
+    let one = λ (i : ℕ). confined meaning w (take i l) a.one_protects m (allowed_part meaning i l w p) in
+    let other = λ (j : ℕ). confined meaning v (take j k) a.other_protects n (allowed_part meaning j k v q) in
     record {
       same_answers = x.same_answers;
       still_alike = λ i j.

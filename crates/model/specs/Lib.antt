@@ -5,6 +5,7 @@ pub mod Status
 pub mod Controller
 pub mod Effects
 pub mod Steps
+pub mod Interrupts
 pub mod Answers
 pub mod Words
 pub mod Console
