@@ -1,5 +1,4 @@
--- Trees of effects: two machines that look alike run alike, a protected one is confined, and the number of registers stays.
--- One induction over the tree for each.
+-- Trees of effects: two machines that look alike run alike, and a protected one is confined. One induction over the tree for each.
 use Rattle.std.proofs.Common.{◌≡◌, ℕ, ◌/◌, Bool, true, false, cond, Ok, Err, List, length, get_or, set, sym, refl, ap, ◌∙◌, subst, length-set, get_or-set_other}
 use mathlib.Core.Bool.{false≢true}
 use lib.Bits.{bit_or}
@@ -52,6 +51,10 @@ relocated_write :
     (a : ℕ) (f : ℕ → ℕ) (s : State) → relocated s.status ≡ true →
     and_then (translated Write a s) (λ r t. went 0 (written_at r f t)) ≡ write_by (verdict Write s.segments a) (real s.segments a) f s
 relocated_write a f s e = rw e (judged_write (verdict Write s.segments a) (real s.segments a) f s e)
+
+-- No register is missing.
+abbrev pub Full : State → Type 0
+Full s = length s.registers ≡ register_count
 
 -- ── Two machines that look alike, by program address, with all their registers ──
 pub record TwinOf
@@ -371,65 +374,3 @@ runs_kept f (read_from n) s g = forbidden_kept s g _
 runs_kept f (write_to n v) s g = forbidden_kept s g _
 runs_kept f (command_to n v) s g = forbidden_kept s g _
 runs_kept f (seq p k) s g = kept_and_then s (run f p s) (λ v u. run f (k v) u) g (runs_kept f p s g) (λ v u e. runs_kept f (k v) u e)
-
--- ── All registers stay, of any tree and any machine ──
--- No register is missing.
-abbrev pub Full : State → Type 0
-Full s = length s.registers ≡ register_count
-
-abbrev pub FullOut : Out → Type 0
-FullOut (went v s) = Full s
-FullOut (stopped c s) = Full s
-
-full_if : (b : Bool) (x y : Out) → FullOut x → FullOut y → FullOut (cond b x y)
-full_if true x y h k = h
-full_if false x y h k = k
-
-full_then : (x : Out) (f : ℕ → State → Out) → FullOut x → ((v : ℕ) (t : State) → Full t → FullOut (f v t)) → FullOut (and_then x f)
-full_then (went v t) f h k = k v t h
-full_then (stopped c t) f h k = h
-
-full_admitted : (v : Verdict) (r : ℕ) (s : State) → Full s → FullOut (admitted v r s)
-full_admitted (Err x) r s h = h
-full_admitted (Ok Plain) r s h = h
-full_admitted (Ok Reported) r s h = h
-
-full_inspected : (v : Verdict) (s : State) → Full s → FullOut (inspected v s)
-full_inspected (Err x) s h = h
-full_inspected (Ok g) s h = h
-
-full_translated : (u : Access) (a : ℕ) (s : State) → Full s → FullOut (translated u a s)
-full_translated u a s h = full_if (relocated s.status) _ _ (full_admitted (verdict u s.segments a) _ s h) h
-
-full_read : (r : ℕ) (s : State) → Full s → FullOut (read_at r s)
-full_read r s h = full_if (reaches_controller r s) _ _ h h
-
-full_written : (b : Bool) (s t : State) → Full s → Full t → Full (cond b s t)
-full_written true s t h k = h
-full_written false s t h k = k
-
--- The induction.
-pub runs_full : (f : Bus) (p : Prog) (s : State) → Full s → FullOut (run f p s)
-runs_full f (ret v) s h = h
-runs_full f (stop c) s h = h
-runs_full f privileged s h = full_if (protected s.status) _ _ h h
-runs_full f (reg n) s h = h
-runs_full f (set_reg n v) s h = length-set s.registers (slot (selected s.status) n) v ∙ h
-runs_full f get_code s h = h
-runs_full f (set_code c) s h = h
-runs_full f get_location s h = h
-runs_full f (jump a) s h = h
-runs_full f (fetch a) s h = full_then (translated Fetch (address a) s) read_at (full_translated Fetch (address a) s h) full_read
-runs_full f (load a) s h = full_then (translated Read (address a) s) read_at (full_translated Read (address a) s h) full_read
-runs_full f (store a w) s h =
-    full_then (translated Write (address a) s) (λ r t. went 0 (written_at r w t)) (full_translated Write (address a) s h)
-    (λ r t k. full_written (reaches_controller r t) _ _ k k)
-runs_full f (check u a) s h = full_if (relocated s.status) _ _ (full_inspected (verdict u s.segments (address a)) s h) h
-runs_full f get_status s h = full_if (protected s.status) _ _ h h
-runs_full f (set_status v) s h = full_if (protected s.status) _ _ h h
-runs_full f (answers n) s h = full_if (protected s.status) _ _ h h
-runs_full f (sense n) s h = full_if (protected s.status) _ _ h h
-runs_full f (read_from n) s h = full_if (protected s.status) _ _ h (full_if (s.bus n).answers _ _ h h)
-runs_full f (write_to n v) s h = full_if (protected s.status) _ _ h (full_if (s.bus n).answers _ _ h h)
-runs_full f (command_to n v) s h = full_if (protected s.status) _ _ h (full_if (s.bus n).answers _ _ h h)
-runs_full f (seq p k) s h = full_then (run f p s) (λ v u. run f (k v) u) (runs_full f p s h) (λ v u e. runs_full f (k v) u e)

@@ -2,6 +2,7 @@ pub mod Views
 pub mod Effects
 pub mod Interrupts
 pub mod Steps
+pub mod Lasting
 pub mod Histories
 pub mod Calls
 pub mod Followers

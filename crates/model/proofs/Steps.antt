@@ -15,7 +15,7 @@ use Rattle.model.specs.Steps.{Ending, finished, waiting, took, recorded, into_ze
 use Rattle.model.specs.Windows.{Protected}
 use Rattle.model.specs.Interrupts.{LeavesRest}
 use Rattle.model.specs.Isolation.{Saves, SavesTheSame}
-use Rattle.model.proofs.Effects.{Twin, SameOut, runs_alike, Kept, KeptThrough, KeptBy, kept_same, kept_then, runs_kept, Full, FullOut, runs_full}
+use Rattle.model.proofs.Effects.{Twin, SameOut, runs_alike, Kept, KeptThrough, KeptBy, kept_same, kept_then, runs_kept, Full}
 use Rattle.model.proofs.Interrupts.{into_count, saved_status, saved_location, saved_count, FillsTwo, illegal_fills, arithmetic_fills, access_fills, by_vector, by_supervisor}
 
 -- ── Alike ──
@@ -126,27 +126,6 @@ ends_kept own s (stopped Arithmetic t) n h =
 ends_kept own s (stopped Refusal t) n h = vector_kept AccessFault 0x90 own s t access_fills n h
 ends_kept own s (stopped (Supervisor i a) t) n h = supervisor_kept i a s t n h
 
--- ── All registers stay ──
--- However the step ends.
-abbrev pub FullEnd : Ending → Type 0
-FullEnd (finished s) = Full s
-FullEnd (waiting s) = Full s
-FullEnd (took r s) = Full s
-
-full_cond : (b : Bool) (x y : Ending) → FullEnd x → FullEnd y → FullEnd (cond b x y)
-full_cond true x y h k = h
-full_cond false x y h k = k
-
-full_saved : (registers : List ℕ) (status own : ℕ) → length registers ≡ register_count → length (saved status own registers) ≡ register_count
-full_saved registers status own h = saved_count registers status own ∙ h
-
-ends_full : (own : ℕ) (x : Out) → FullOut x → FullEnd (ended own x)
-ends_full own (went v t) h = full_cond t.pending _ _ (full_saved t.registers _ _ h) h
-ends_full own (stopped Illegal t) h = full_saved t.registers _ _ h
-ends_full own (stopped Arithmetic t) h = full_cond (arithmetic_on t.status) _ _ (full_saved t.registers _ _ h) h
-ends_full own (stopped Refusal t) h = full_saved t.registers _ _ h
-ends_full own (stopped (Supervisor n a) t) h = full_saved (into_zero 13 a t.registers) _ _ (length-set t.registers (slot 0 13) a ∙ h)
-
 -- ── The step ──
 module _ (meaning : ℕ → Prog) where
   -- A step that no device interrupts is like that of a machine that no device asks.
@@ -164,12 +143,3 @@ module _ (meaning : ℕ → Prog) where
   served_kept f None s g h d =
       kept_cond (waits s.status) s _ _ (kept_same s)
       (ends_kept s.location s (run f (cycle meaning) (with_pending false s)) h (runs_kept f (cycle meaning) (with_pending false s) g))
-
-  served_full : (f : Bus) (o : Option ℕ) (s : State) → Full s → FullEnd (served meaning f o s)
-  served_full f (Some n) s h = simp length-set h
-  served_full f None s h =
-      full_cond (waits s.status) _ _ h
-      (ends_full s.location (run f (cycle meaning) (with_pending false s)) (runs_full f (cycle meaning) (with_pending false s) h))
-
-  pub steps_full : (f : Bus) (s : State) → Full s → FullEnd (stepped meaning f s)
-  steps_full f s h = served_full f (poll s) s h

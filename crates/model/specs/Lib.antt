@@ -13,4 +13,5 @@ pub mod Runs
 pub mod Tapes
 pub mod Windows
 pub mod Calls
+pub mod Lasting
 pub mod Isolation
