@@ -1,4 +1,6 @@
 pub mod Views
+pub mod Requests
+pub mod Denials
 pub mod Effects
 pub mod Interrupts
 pub mod Steps

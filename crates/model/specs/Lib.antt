@@ -1,5 +1,6 @@
 pub mod Stores
 pub mod Buses
+pub mod Requests
 pub mod States
 pub mod Status
 pub mod Controller
@@ -11,6 +12,7 @@ pub mod Words
 pub mod Console
 pub mod Runs
 pub mod Tapes
+pub mod Denials
 pub mod Windows
 pub mod Calls
 pub mod Lasting
