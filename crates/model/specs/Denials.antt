@@ -8,10 +8,10 @@ use Rattle.model.specs.declared.Item.TheVariants.{General, Segment, Status, Loca
 use Rattle.model.specs.declared.Record.{Record}
 use Rattle.model.specs.Stores.{Store}
 use Rattle.model.specs.Effects.{Prog}
-use Rattle.model.specs.Answers.{number, off, on, lock, Answer, faulted, accepted}
-use Rattle.model.specs.Console.{Desk, Act, turn_key, initialise, examine, deposit, set_item, show_item, step, is_unfitted, is_fixed, denial, off_denial}
-use Rattle.model.specs.Runs.{run_denial}
-use Rattle.model.specs.Tapes.{Order, point, obey, go, Command, unknown, known, Spelling, spelled, Obeys, Playing}
+use Rattle.model.specs.Answers.{number, off, on, lock, Answer, denied, faulted, accepted}
+use Rattle.model.specs.Console.{Desk, Act, turn_key, initialise, examine, deposit, set_item, show_item, step, is_unfitted, is_fixed, call}
+use Rattle.model.specs.Runs.{Runs}
+use Rattle.model.specs.Tapes.{Order, point, obey, go, Command, unknown, known, Spelling, spelled, Obeys, Playing, PlayedOn, Plays}
 
 -- ── What is asked of the machine ──
 -- A call of the console; a run with a count, and so much room in its trace; a tape; or nothing that could be denied, as the address that
@@ -127,9 +127,55 @@ abbrev pub first_denial : Asked → Desk → Option ℕ
 first_denial q w = option_map number (find (λ d. applies d q w) in_order)
 
 -- ── The laws ──
--- Every call is denied by the first denial that applies, and by none just when none applies.
+-- The answer a is this refusal, and the machine and the trace are as they were.
+pub record Leaves (refusal a : Answer) (w v : Desk) (q p : List Record) : Type 0 where
+  pub answer : a ≡ refusal
+  pub machine : v ≡ w
+  pub trace : p ≡ q
+
+-- A call that is denied with n, or by nothing, and so accepted.
+abbrev pub Given : Option ℕ → Answer → Desk → Desk → List Record → List Record → Type 0
+Given (Some n) a w v q p = Leaves (denied n) a w v q p
+Given None a w v q p = accepted a ≡ true
+
+-- A command that is obeyed, after which the rest of the tape is played.
+pub record GoesOn
+    (meaning : ℕ → Prog) (cap : ℕ) (o : Order) (rest : Spelling) (n : ℕ) (w : Desk) (q : List Record) (a : Answer) (v : Desk)
+    (p : List Record) : Type 0 where
+  pub answer : Answer
+  pub machine : Desk
+  pub trace : List Record
+  pub obeys : Obeys meaning cap o w q answer machine trace
+  pub accepts : accepted answer ≡ true
+  pub plays : Playing meaning cap rest (n + 1) machine trace a v p
+
+module _ (meaning : ℕ → Prog) (cap : ℕ) where
+  -- A tape on the machine w, which is denied with n, or played.
+  abbrev pub GivenTape : Option ℕ → List ℕ → Desk → List Record → Answer → Desk → List Record → Type 0
+  GivenTape (Some n) bytes w q a v p = Leaves (faulted n 0 None) a w v q p
+  GivenTape None bytes w q a v p = PlayedOn meaning cap bytes w q a v p
+
+  -- A letter's command, which is denied with d at its place, or obeyed.
+  abbrev pub GivenLetter :
+      Option ℕ → Command → ℕ → ℕ → (ℕ → ℕ → Spelling) → ℕ → Desk → List Record → Answer → Desk → List Record → Type 0
+  GivenLetter (Some d) c sign place more n w q a v p = Leaves (faulted d place (Some sign)) a w v q p
+  GivenLetter None unknown sign place more n w q a v p = ⊥
+  GivenLetter None (known size o next) sign place more n w q a v p = GoesOn meaning cap o (more size next) n w q a v p
+
+-- Each call is denied by the first denial that applies, and by none just when none applies: calls of the console, runs, tapes, and
+-- the letters of a tape that is played, for which the key is ON.
 pub record FirstIsGiven : Type 0 where
-  pub calls : (c : Act) (w : Desk) → denial c w ≡ first_denial (plain (act c)) w
+  pub calls :
+      (meaning : ℕ → Prog) (c : Act) (w : Desk) → let d = call meaning c w in
+      Given (first_denial (plain (act c)) w) d.answer w d.after [] d.added
   pub runs :
-      (meaning : ℕ → Prog) (count room : ℕ) (w : Desk) → run_denial meaning count room w ≡ first_denial (plain (run count room)) w
-  pub tapes : (w : Desk) → off_denial w ≡ first_denial (plain tape) w
+      (meaning : ℕ → Prog) (cap count : ℕ) (w : Desk) (q : List Record) (a : Answer) (v : Desk) (p : List Record) →
+      Runs meaning cap count w q a v p → Given (first_denial (plain (run count (cap - length q))) w) a w v q p
+  pub tapes :
+      (meaning : ℕ → Prog) (cap : ℕ) (bytes : List ℕ) (w : Desk) (q : List Record) (a : Answer) (v : Desk) (p : List Record) →
+      Plays meaning cap bytes w q a v p → GivenTape meaning cap (first_denial (plain tape) w) bytes w q a v p
+  pub letters :
+      (meaning : ℕ → Prog) (cap : ℕ) (c : Command) (sign place : ℕ) (rest : List ℕ) (more : ℕ → ℕ → Spelling) (n : ℕ) (w : Desk)
+      (q : List Record) (a : Answer) (v : Desk) (p : List Record) → w.key ≡ on →
+      Playing meaning cap (spelled c sign place rest more) n w q a v p →
+      GivenLetter meaning cap (first_denial (letter c (length rest) (cap - length q)) w) c sign place more n w q a v p
