@@ -1,5 +1,5 @@
 -- The first denial that applies is the one given.
-use Rattle.std.proofs.Common.{◌≡◌, ℕ, ◌+◌, ◌-◌, ◌%◌, ◌^◌, Bool, true, false, cond, not, ◌||◌, eqb, leb, ◌⊎◌, List, [], ◌∷◌, length, Some, None, Option, refl, sym, ap, ◌∙◌, subst, arith, inl, inr, ⊎_elim}
+use Rattle.std.proofs.Common.{◌≡◌, ℕ, ◌-◌, ◌%◌, ◌^◌, Bool, true, false, cond, not, ◌||◌, eqb, leb, ◌⊎◌, List, [], ◌∷◌, length, Some, None, Option, refl, sym, ap, ◌∙◌, subst, arith, inl, inr, ⊎_elim}
 use Rattle.std.specs.Prelude.{nat_lt, ◌==◌, ◌&&◌, find}
 use Rattle.std.specs.Option.{option_map}
 use Rattle.std.proofs.lemmas.Bool.Decides.{nat_tests}
@@ -16,7 +16,7 @@ use Rattle.model.specs.Answers.{number, off, on, lock, Answer, denied, faulted, 
 use Rattle.model.specs.Console.{Desk, Act, turn_key, initialise, examine, deposit, set_item, show_item, step, or_else, deny_if, off_denial, key_denial, strange, denial, Did, did_step, unless_denied, obeyed, call}
 use Rattle.model.specs.Runs.{run_denial, RunsUnless, Runs}
 use Rattle.model.specs.Tapes.{Order, point, obey, go, Command, unknown, known, Spelling, end, broken, order, spelled, Obeys, Playing, ends, breaks, halts, goes_on, PlaysUnless, Plays}
-use Rattle.model.specs.Denials.{Call, act, run, tape, nothing, plain, letter, ordered, turns_key, goes_at_lock, applies, first_denial, Leaves, Given, GoesOn, GivenTape, GivenLetter, FirstIsGiven}
+use Rattle.model.specs.Denials.{Call, act, run, tape, nothing, plain, command, ordered, turns_key, goes_at_lock, applies, first_denial, Leaves, Given, GoesOn, GivenTape, GivenLetter, FirstIsGiven}
 
 -- ── Tests in two wordings ──
 unused_set : (v : ℕ) → not (eqb (used v) v) ≡ (leb (2 ^ 28) v || not (eqb (v % 2 ^ 4) 0))
@@ -158,9 +158,9 @@ given_order meaning cap (go count) w q a v p e h =
 -- What a playing says of the head of a spelling.
 abbrev Headed : (meaning : ℕ → Prog) (cap : ℕ) → Spelling → ℕ → Desk → List Record → Answer → Desk → List Record → Type 0
 Headed meaning cap end n w q a v p = Unit {0}
-Headed meaning cap (broken d place sign) n w q a v p = Leaves (faulted d place (Some sign)) a w v q p
-Headed meaning cap (order o sign place rest) n w q a v p =
-    ((d : ℕ) × Obeys meaning cap o w q (denied d) v p × (a ≡ faulted d place (Some sign))) ⊎ GoesOn meaning cap o rest n w q a v p
+Headed meaning cap (broken d place letter) n w q a v p = Leaves (faulted d place (Some letter)) a w v q p
+Headed meaning cap (order o letter place rest) n w q a v p =
+    ((d : ℕ) × Obeys meaning cap o w q (denied d) v p × (a ≡ faulted d place (Some letter))) ⊎ GoesOn meaning cap o rest n w q a v p
 
 headed :
     {meaning : ℕ → Prog} {cap : ℕ} {s : Spelling} {n : ℕ} {w : Desk} {q : List Record} {a : Answer} {v : Desk} {p : List Record} →
@@ -170,18 +170,18 @@ headed breaks = record { answer = refl; machine = refl; trace = refl }
 headed (halts {d = d} h) = inl (d, h, refl)
 headed (goes_on {u = u} {r = r} b h e rest) = inr (record { answer = b; machine = u; trace = r; obeys = h; accepts = e; plays = rest })
 
-module _ (meaning : ℕ → Prog) (cap : ℕ) (size : ℕ) (o : Order) (next sign place : ℕ) (more : ℕ → ℕ → Spelling) (n : ℕ) (w : Desk) (q : List Record) (a : Answer) (v : Desk) (p : List Record) where
-  stopped_by : (x : Option ℕ) (d : ℕ) → Given x (denied d) w v q p → a ≡ faulted d place (Some sign) → GivenLetter meaning cap x (known size o next) sign place more n w q a v p
+module _ (meaning : ℕ → Prog) (cap : ℕ) (size : ℕ) (o : Order) (next letter place : ℕ) (more : ℕ → ℕ → Spelling) (n : ℕ) (w : Desk) (q : List Record) (a : Answer) (v : Desk) (p : List Record) where
+  stopped_by : (x : Option ℕ) (d : ℕ) → Given x (denied d) w v q p → a ≡ faulted d place (Some letter) → GivenLetter meaning cap x (known size o next) letter place more n w q a v p
   stopped_by (Some m) d h e = let f : denied d ≡ denied m = h.answer in record { answer = cc; machine = h.machine; trace = h.trace }
   stopped_by None d h e = absurd (false≢true h)
 
-  gone_on : (x : Option ℕ) (g : GoesOn meaning cap o (more size next) n w q a v p) → Given x g.answer w g.machine q g.trace → GivenLetter meaning cap x (known size o next) sign place more n w q a v p
+  gone_on : (x : Option ℕ) (g : GoesOn meaning cap o (more size next) n w q a v p) → Given x g.answer w g.machine q g.trace → GivenLetter meaning cap x (known size o next) letter place more n w q a v p
   gone_on (Some m) g h = absurd (false≢true (sym (ap accepted h.answer) ∙ g.accepts))
   gone_on None g h = g
 
   letter_if :
-      (b : Bool) → w.key ≡ on → Headed meaning cap (cond b (broken 6 place sign) (order o sign place (more size next))) n w q a v p →
-      GivenLetter meaning cap (option_map number (cond b (Some CutShort) (at_on (ordered o (cap - length q)) w))) (known size o next) sign place more n w q a v p
+      (b : Bool) → w.key ≡ on → Headed meaning cap (cond b (broken 6 place letter) (order o letter place (more size next))) n w q a v p →
+      GivenLetter meaning cap (option_map number (cond b (Some CutShort) (at_on (ordered o (cap - length q)) w))) (known size o next) letter place more n w q a v p
   letter_if true e h = h
   letter_if false e h =
       let x = option_map number (at_on (ordered o (cap - length q)) w) in
@@ -191,16 +191,16 @@ module _ (meaning : ℕ → Prog) (cap : ℕ) (size : ℕ) (o : Order) (next sig
       h
 
 given_letter :
-    (meaning : ℕ → Prog) (cap : ℕ) (c : Command) (sign place : ℕ) (rest : List ℕ) (more : ℕ → ℕ → Spelling) (n : ℕ) (w : Desk)
-    (q : List Record) (a : Answer) (v : Desk) (p : List Record) → w.key ≡ on → Playing meaning cap (spelled c sign place rest more) n w q a v p →
-    GivenLetter meaning cap (first_denial (letter c (length rest) (cap - length q)) w) c sign place more n w q a v p
-given_letter meaning cap unknown sign place rest more n w q a v p e h =
-    subst (λ (x : Option ℕ). GivenLetter meaning cap x unknown sign place more n w q a v p) (sym (key_on nothing w (Some UnknownLetter) e)) (headed h)
-given_letter meaning cap (known size o next) sign place rest more n w q a v p e h =
+    (meaning : ℕ → Prog) (cap : ℕ) (c : Command) (letter place : ℕ) (rest : List ℕ) (more : ℕ → ℕ → Spelling) (n : ℕ) (w : Desk)
+    (q : List Record) (a : Answer) (v : Desk) (p : List Record) → w.key ≡ on → Playing meaning cap (spelled c letter place rest more) n w q a v p →
+    GivenLetter meaning cap (first_denial (command c (length rest) (cap - length q)) w) c letter place more n w q a v p
+given_letter meaning cap unknown letter place rest more n w q a v p e h =
+    subst (λ (x : Option ℕ). GivenLetter meaning cap x unknown letter place more n w q a v p) (sym (key_on nothing w (Some UnknownLetter) e)) (headed h)
+given_letter meaning cap (known size o next) letter place rest more n w q a v p e h =
     let c = ordered o (cap - length q) in
     let b = nat_lt (length rest) size in
-    subst (λ (x : Option ℕ). GivenLetter meaning cap x (known size o next) sign place more n w q a v p)
-    (sym (key_on c w (cond b (Some CutShort) (at_on c w)) e)) (letter_if meaning cap size o next sign place more n w q a v p b e (headed h))
+    subst (λ (x : Option ℕ). GivenLetter meaning cap x (known size o next) letter place more n w q a v p)
+    (sym (key_on c w (cond b (Some CutShort) (at_on c w)) e)) (letter_if meaning cap size o next letter place more n w q a v p b e (headed h))
 
 pub first_is_given : FirstIsGiven
 first_is_given = record { calls = given_call; runs = given_run; tapes = given_tape; letters = given_letter }

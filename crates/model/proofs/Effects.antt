@@ -5,14 +5,14 @@ use lib.Bits.{bit_or}
 use Rattle.model.specs.declared.Access.{Access}
 use Rattle.model.specs.declared.Access.TheVariants.{Fetch, Read, Write}
 use Rattle.model.specs.declared.Grant.TheVariants.{Plain, Reported}
-use Rattle.model.specs.declared.Trap.TheVariants.{Illegal, Refusal}
+use Rattle.model.specs.declared.Trap.TheVariants.{Refusal}
 use Rattle.model.specs.declared.Record.{Record}
 use Rattle.model.specs.Stores.{Store, Place, at, revised, half_at}
 use Rattle.model.specs.Buses.{Bus}
 use Rattle.model.specs.States.{State, with_status, with_location, with_faults, with_pending, with_registers, with_store}
 use Rattle.model.specs.Status.{relocated, protected, code_of, upper, recoded, register_count, selected, slot, address}
 use Rattle.model.specs.Controller.{Verdict, verdict, real, place, fault_bit, write_report}
-use Rattle.model.specs.Effects.{Out, went, stopped, Prog, ret, stop, privileged, reg, set_reg, get_code, set_code, get_location, jump, fetch, load, store, check, get_status, set_status, answers, sense, read_from, write_to, command_to, seq, and_then, admitted, translated, inspected, checked, reaches_controller, read_at, written_at, unless_protected, run}
+use Rattle.model.specs.Effects.{Out, went, stopped, Prog, ret, stop, privileged, reg, set_reg, get_code, set_code, get_location, jump, fetch, load, store, check, get_status, set_status, answers, sense, read_from, write_to, command_to, seq, and_then, admitted, translated, inspected, checked, read_at, written_at, run}
 use Rattle.model.specs.Interrupts.{Fills}
 use Rattle.model.specs.Windows.{Protected, InWritableWindow}
 use Rattle.model.proofs.Views.{upper_recoded, selected_upper, protected_upper, Passes, Visible, in_view, in_writable, same_verdict, SameView, view_revised, stored_other, set_agrees, slot_set}
@@ -211,16 +211,15 @@ module _ (s t : State) (h : Abreast s t) where
       both_on (relocated s.status) (relocated t.status) _ _ _ _ h.1.protects.relocates relocates'
       (subst (λ (x : Verdict). SameOut (inspected v s) (inspected x t)) (one_verdict u (address a)) (same_check v s t h))
 
-  -- A privileged effect stops both.
-  forbidden_alike : (x y : Out) → SameOut (unless_protected s x) (unless_protected t y)
-  forbidden_alike x y =
-      both_on (protected s.status) (protected t.status) (stopped Illegal s) (stopped Illegal t) x y h.1.protects.forbids forbids' (refl, h.1)
+  -- A privileged effect stops both, each by what it is under protection.
+  forbidden_alike : (x y u v : Out) → SameOut x y → SameOut (cond (protected s.status) x u) (cond (protected t.status) y v)
+  forbidden_alike x y u v = both_on (protected s.status) (protected t.status) x y u v h.1.protects.forbids forbids'
 
 -- The induction.
 pub runs_alike : (f g : Bus) (p : Prog) (s t : State) → Abreast s t → SameOut (run f p s) (run g p t)
 runs_alike f g (ret v) s t h = (refl, h)
 runs_alike f g (stop c) s t h = (refl, h.1)
-runs_alike f g privileged s t h = forbidden_alike s t h _ _
+runs_alike f g privileged s t h = forbidden_alike s t h _ _ _ _ (refl, h.1)
 runs_alike f g (reg n) s t h = (h.1.same_registers n, h)
 runs_alike f g (set_reg n v) s t h = (refl, (h.0, twin_register n v s t h.1))
 runs_alike f g get_code s t h = (ap code_of h.1.same_status, h)
@@ -231,13 +230,13 @@ runs_alike f g (fetch a) s t h = reads_alike s t h Fetch a
 runs_alike f g (load a) s t h = reads_alike s t h Read a
 runs_alike f g (store a w) s t h = writes_alike s t h a w
 runs_alike f g (check u a) s t h = checks_alike s t h u a
-runs_alike f g get_status s t h = forbidden_alike s t h _ _
-runs_alike f g (set_status v) s t h = forbidden_alike s t h _ _
-runs_alike f g (answers n) s t h = forbidden_alike s t h _ _
-runs_alike f g (sense n) s t h = forbidden_alike s t h _ _
-runs_alike f g (read_from n) s t h = forbidden_alike s t h _ _
-runs_alike f g (write_to n v) s t h = forbidden_alike s t h _ _
-runs_alike f g (command_to n v) s t h = forbidden_alike s t h _ _
+runs_alike f g get_status s t h = forbidden_alike s t h _ _ _ _ (refl, h.1)
+runs_alike f g (set_status v) s t h = forbidden_alike s t h _ _ _ _ (refl, h.1)
+runs_alike f g (answers n) s t h = forbidden_alike s t h _ _ _ _ (refl, h.1)
+runs_alike f g (sense n) s t h = forbidden_alike s t h _ _ _ _ (refl, h.1)
+runs_alike f g (read_from n) s t h = forbidden_alike s t h _ _ _ _ (refl, h.1)
+runs_alike f g (write_to n v) s t h = forbidden_alike s t h _ _ _ _ (refl, h.1)
+runs_alike f g (command_to n v) s t h = forbidden_alike s t h _ _ _ _ (refl, h.1)
 runs_alike f g (seq p k) s t h =
     same_then (run f p s) (run g p t) (λ v u. run f (k v) u) (λ v u. run g (k v) u) (runs_alike f g p s t h) (λ v u w e. runs_alike f g (k v) u w e)
 
@@ -339,14 +338,14 @@ module _ (s : State) (g : Protected s.status) where
   checks_kept : (u : Access) (a : ℕ) → KeptBy s (checked u (address a) s)
   checks_kept u a = kept_on (relocated s.status) s _ _ g.relocates (kept_check (verdict u s.segments (address a)) s)
 
-  forbidden_kept : (x : Out) → KeptBy s (unless_protected s x)
-  forbidden_kept x = kept_on (protected s.status) s (stopped Illegal s) x g.forbids (kept_same s)
+  forbidden_kept : (x u : Out) → KeptBy s x → KeptBy s (cond (protected s.status) x u)
+  forbidden_kept x u = kept_on (protected s.status) s x u g.forbids
 
 -- The induction.
 pub runs_kept : (f : Bus) (p : Prog) (s : State) → Protected s.status → KeptBy s (run f p s)
 runs_kept f (ret v) s g = kept_same s
 runs_kept f (stop c) s g = kept_same s
-runs_kept f privileged s g = forbidden_kept s g _
+runs_kept f privileged s g = forbidden_kept s g _ _ (kept_same s)
 runs_kept f (reg n) s g = kept_same s
 runs_kept f (set_reg n v) s g = record {
   same_segments = refl;
@@ -366,11 +365,11 @@ runs_kept f (fetch a) s g = reads_kept s g Fetch a
 runs_kept f (load a) s g = reads_kept s g Read a
 runs_kept f (store a w) s g = writes_kept s g a w
 runs_kept f (check u a) s g = checks_kept s g u a
-runs_kept f get_status s g = forbidden_kept s g _
-runs_kept f (set_status v) s g = forbidden_kept s g _
-runs_kept f (answers n) s g = forbidden_kept s g _
-runs_kept f (sense n) s g = forbidden_kept s g _
-runs_kept f (read_from n) s g = forbidden_kept s g _
-runs_kept f (write_to n v) s g = forbidden_kept s g _
-runs_kept f (command_to n v) s g = forbidden_kept s g _
+runs_kept f get_status s g = forbidden_kept s g _ _ (kept_same s)
+runs_kept f (set_status v) s g = forbidden_kept s g _ _ (kept_same s)
+runs_kept f (answers n) s g = forbidden_kept s g _ _ (kept_same s)
+runs_kept f (sense n) s g = forbidden_kept s g _ _ (kept_same s)
+runs_kept f (read_from n) s g = forbidden_kept s g _ _ (kept_same s)
+runs_kept f (write_to n v) s g = forbidden_kept s g _ _ (kept_same s)
+runs_kept f (command_to n v) s g = forbidden_kept s g _ _ (kept_same s)
 runs_kept f (seq p k) s g = kept_and_then s (run f p s) (λ v u. run f (k v) u) g (runs_kept f p s g) (λ v u e. runs_kept f (k v) u e)

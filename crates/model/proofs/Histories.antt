@@ -1,5 +1,5 @@
 -- What lasts in every machine that calls lead to.
-use Rattle.std.proofs.Common.{◌≡◌, ℕ, zero, suc, ◌+◌, ◌^◌, ◌<◌, ◌≤◌, ◌-◌, Bool, true, false, not, T, eqb, List, length, get_or, replicate, Some, None, Option, sym, refl, ap, ◌∙◌, subst, arith, eqb→eq}
+use Rattle.std.proofs.Common.{◌≡◌, ℕ, zero, suc, ◌+◌, ◌<◌, ◌≤◌, ◌-◌, Bool, true, false, not, T, eqb, List, length, get_or, replicate, Some, None, Option, sym, refl, ap, ◌∙◌, subst, arith, eqb→eq}
 use Rattle.std.proofs.lemmas.Grind.{common_steps}
 use Rattle.model.specs.declared.Item.{Item}
 use Rattle.model.specs.declared.Item.TheVariants.{General, Segment, Status, Location}

@@ -1,17 +1,15 @@
 -- What an interrupt does to the registers: what it fills, and that all others stay.
-use Rattle.std.proofs.Common.{◌≡◌, ℕ, ◌+◌, ◌*◌, ◌%◌, ◌^◌, ◌<◌, Bool, true, false, cond, List, [], ◌∷◌, length, get_or, set, sym, refl, ap, ◌∙◌, subst, arith, length-set, get_or-set_other, get_or-set_same, lit<}
+use Rattle.std.proofs.Common.{◌≡◌, ℕ, ◌+◌, ◌*◌, ◌%◌, ◌^◌, ◌<◌, Bool, true, false, cond, List, length, get_or, sym, refl, ◌∙◌, arith, length-set, get_or-set_other, get_or-set_same, lit<}
 use Rattle.std.specs.Prelude.{slice_index_or}
 use mathlib.Core.Bool.{false≢true}
-use Rattle.model.specs.declared.Trap.TheVariants.{Illegal, Arithmetic, Refusal, Supervisor}
 use Rattle.model.specs.declared.Cause.{Cause}
 use Rattle.model.specs.declared.Cause.TheVariants.{IllegalInstruction, ArithmeticFault, AccessFault, SupervisorCall, DeviceRequest}
 use Rattle.model.specs.declared.Record.{Record}
-use Rattle.model.specs.Stores.{half_at, full_at}
+use Rattle.model.specs.Stores.{half_at}
 use Rattle.model.specs.States.{State}
 use Rattle.model.specs.Status.{arithmetic_on, register_count, slot, counter, to_half}
-use Rattle.model.specs.Effects.{went, stopped}
-use Rattle.model.specs.Steps.{Ending, took, recorded, into_zero, saved, loaded, interrupted, supervised, requested, ended}
-use Rattle.model.specs.Interrupts.{filled_registers, Fills, LeavesRest, Records, ByVector, BySupervisor, ByDevice, Took, InterruptsInWords}
+use Rattle.model.specs.Steps.{Ending, recorded, into_zero, saved, interrupted, supervised, requested}
+use Rattle.model.specs.Interrupts.{filled_registers, Fills, Records, ByVector, BySupervisor, ByDevice, Took, InterruptsInWords}
 
 -- ── One register of set 0 ──
 into_same : (m v : ℕ) (registers : List ℕ) → length registers ≡ register_count → m < 16 → get_or (into_zero m v registers) (slot 0 m) 0 ≡ v

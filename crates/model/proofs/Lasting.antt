@@ -10,11 +10,11 @@ use Rattle.model.specs.declared.Kind.TheVariants.{Writable, Fixed, Unfitted}
 use Rattle.model.specs.declared.Trap.TheVariants.{Illegal, Arithmetic, Refusal, Supervisor}
 use Rattle.model.specs.Stores.{Store, taken, stored}
 use Rattle.model.specs.Buses.{Bus}
-use Rattle.model.specs.States.{State, with_pending, with_segments, with_store}
+use Rattle.model.specs.States.{State, with_pending}
 use Rattle.model.specs.Status.{relocated, protected, waits, arithmetic_on, register_count, selected, slot, address}
-use Rattle.model.specs.Controller.{Verdict, verdict, is_segment, segment_at, used, with_half, segments_after}
+use Rattle.model.specs.Controller.{Verdict, verdict, is_segment, segment_at, used, segments_after}
 use Rattle.model.specs.Effects.{Out, went, stopped, Prog, ret, stop, privileged, reg, set_reg, get_code, set_code, get_location, jump, fetch, load, store, check, get_status, set_status, answers, sense, read_from, write_to, command_to, seq, and_then, admitted, translated, inspected, reaches_controller, read_at, written_at, run}
-use Rattle.model.specs.Steps.{Ending, finished, waiting, took, into_zero, loaded, ended, poll, cycle, served, stepped}
+use Rattle.model.specs.Steps.{Ending, finished, waiting, took, ended, poll, cycle, served, stepped}
 use Rattle.model.specs.Lasting.{SamePlaces}
 
 -- ── Places ──

@@ -1,5 +1,5 @@
 -- One step, with the interrupt that it takes.
-use Rattle.std.proofs.Common.{◌≡◌, ℕ, Bool, true, false, cond, List, length, get_or, set, Some, None, Option, refl, ap, ◌∙◌, subst, true≢false, arith, length-set, get_or-set_other, get_or-set_same}
+use Rattle.std.proofs.Common.{◌≡◌, ℕ, Bool, true, false, cond, List, length, Some, None, Option, refl, ap, ◌∙◌, subst, true≢false, length-set}
 use mathlib.Core.Bool.{false≢true}
 use Rattle.model.specs.declared.Trap.{Trap}
 use Rattle.model.specs.declared.Trap.TheVariants.{Illegal, Arithmetic, Refusal, Supervisor}
@@ -11,7 +11,7 @@ use Rattle.model.specs.Buses.{Bus}
 use Rattle.model.specs.States.{State, with_pending}
 use Rattle.model.specs.Status.{upper, waits, arithmetic_on, register_count, slot}
 use Rattle.model.specs.Effects.{Out, went, stopped, Prog, run}
-use Rattle.model.specs.Steps.{Ending, finished, waiting, took, recorded, into_zero, saved, loaded, interrupted, supervised, ended, poll, cycle, proceeded, served, stepped}
+use Rattle.model.specs.Steps.{Ending, finished, waiting, took, recorded, into_zero, saved, loaded, interrupted, supervised, ended, cycle, proceeded, served}
 use Rattle.model.specs.Windows.{Protected}
 use Rattle.model.specs.Interrupts.{LeavesRest}
 use Rattle.model.specs.Isolation.{Saves, SavesTheSame}

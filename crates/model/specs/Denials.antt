@@ -25,7 +25,7 @@ pub data Call : Type 0 where
 -- A call, or while a tape is played a letter's command, with so many bytes behind the letter, and so much room in the trace.
 pub data Asked : Type 0 where
   plain : Call → Asked
-  letter : Command → ℕ → ℕ → Asked
+  command : Command → ℕ → ℕ → Asked
 
 -- The call of an order, and what is called in the end.
 abbrev pub ordered : Order → ℕ → Call
@@ -35,8 +35,8 @@ ordered (go count) room = run count room
 
 abbrev pub call_of : Asked → Call
 call_of (plain c) = c
-call_of (letter unknown left room) = nothing
-call_of (letter (known size o next) left room) = ordered o room
+call_of (command unknown left room) = nothing
+call_of (command (known size o next) left room) = ordered o room
 
 -- ── Each denial by itself ──
 -- 7: the key is OFF, for all but a turn of the key.
@@ -55,12 +55,12 @@ goes_at_lock _ = false
 
 -- 5: the letter is unknown.
 abbrev pub is_unknown : Asked → Bool
-is_unknown (letter unknown left room) = true
+is_unknown (command unknown left room) = true
 is_unknown _ = false
 
 -- 6: the operand is cut short.
 abbrev pub is_cut_short : Asked → Bool
-is_cut_short (letter (known size o next) left room) = nat_lt left size
+is_cut_short (command (known size o next) left room) = nat_lt left size
 is_cut_short _ = false
 
 -- 1: the address of an examine or a deposit is odd, over X'FFFFF' or of an unfitted place.
@@ -158,9 +158,9 @@ module _ (meaning : ℕ → Prog) (cap : ℕ) where
   -- A letter's command, which is denied with d at its place, or obeyed.
   abbrev pub GivenLetter :
       Option ℕ → Command → ℕ → ℕ → (ℕ → ℕ → Spelling) → ℕ → Desk → List Record → Answer → Desk → List Record → Type 0
-  GivenLetter (Some d) c sign place more n w q a v p = Leaves (faulted d place (Some sign)) a w v q p
-  GivenLetter None unknown sign place more n w q a v p = ⊥
-  GivenLetter None (known size o next) sign place more n w q a v p = GoesOn meaning cap o (more size next) n w q a v p
+  GivenLetter (Some d) c letter place more n w q a v p = Leaves (faulted d place (Some letter)) a w v q p
+  GivenLetter None unknown letter place more n w q a v p = ⊥
+  GivenLetter None (known size o next) letter place more n w q a v p = GoesOn meaning cap o (more size next) n w q a v p
 
 -- Each call is denied by the first denial that applies, and by none just when none applies: calls of the console, runs, tapes, and
 -- the letters of a tape that is played, for which the key is ON.
@@ -175,7 +175,7 @@ pub record FirstIsGiven : Type 0 where
       (meaning : ℕ → Prog) (cap : ℕ) (bytes : List ℕ) (w : Desk) (q : List Record) (a : Answer) (v : Desk) (p : List Record) →
       Plays meaning cap bytes w q a v p → GivenTape meaning cap (first_denial (plain tape) w) bytes w q a v p
   pub letters :
-      (meaning : ℕ → Prog) (cap : ℕ) (c : Command) (sign place : ℕ) (rest : List ℕ) (more : ℕ → ℕ → Spelling) (n : ℕ) (w : Desk)
+      (meaning : ℕ → Prog) (cap : ℕ) (c : Command) (letter place : ℕ) (rest : List ℕ) (more : ℕ → ℕ → Spelling) (n : ℕ) (w : Desk)
       (q : List Record) (a : Answer) (v : Desk) (p : List Record) → w.key ≡ on →
-      Playing meaning cap (spelled c sign place rest more) n w q a v p →
-      GivenLetter meaning cap (first_denial (letter c (length rest) (cap - length q)) w) c sign place more n w q a v p
+      Playing meaning cap (spelled c letter place rest more) n w q a v p →
+      GivenLetter meaning cap (first_denial (command c (length rest) (cap - length q)) w) c letter place more n w q a v p
