@@ -1,18 +1,19 @@
--- Trees of effects: two machines that look alike run alike, a protected one is confined, and the number of registers stays.
--- One induction over the tree for each.
+-- Trees of effects: two machines that look alike run alike, and a protected one is confined. One induction over the tree for each.
 use Rattle.std.proofs.Common.{◌≡◌, ℕ, ◌/◌, Bool, true, false, cond, Ok, Err, List, length, get_or, set, sym, refl, ap, ◌∙◌, subst, length-set, get_or-set_other}
 use mathlib.Core.Bool.{false≢true}
 use lib.Bits.{bit_or}
 use Rattle.model.specs.declared.Access.{Access}
 use Rattle.model.specs.declared.Access.TheVariants.{Fetch, Read, Write}
 use Rattle.model.specs.declared.Grant.TheVariants.{Plain, Reported}
-use Rattle.model.specs.declared.Trap.TheVariants.{Illegal, Refusal}
+use Rattle.model.specs.declared.Trap.TheVariants.{Refusal}
+use Rattle.model.specs.declared.Record.{Record}
 use Rattle.model.specs.Stores.{Store, Place, at, revised, half_at}
 use Rattle.model.specs.Buses.{Bus}
 use Rattle.model.specs.States.{State, with_status, with_location, with_faults, with_pending, with_registers, with_store}
 use Rattle.model.specs.Status.{relocated, protected, code_of, upper, recoded, register_count, selected, slot, address}
 use Rattle.model.specs.Controller.{Verdict, verdict, real, place, fault_bit, write_report}
-use Rattle.model.specs.Effects.{Out, went, stopped, Prog, ret, stop, privileged, reg, set_reg, get_code, set_code, get_location, jump, fetch, load, store, check, get_status, set_status, answers, sense, read_from, write_to, command_to, seq, and_then, admitted, translated, inspected, checked, reaches_controller, read_at, written_at, unless_protected, run}
+use Rattle.model.specs.Effects.{Out, went, stopped, Prog, ret, stop, privileged, reg, set_reg, get_code, set_code, get_location, jump, fetch, load, store, check, get_status, set_status, answers, sense, read_from, write_to, command_to, seq, and_then, admitted, translated, inspected, checked, read_at, written_at, run}
+use Rattle.model.specs.Interrupts.{Fills}
 use Rattle.model.specs.Windows.{Protected, InWritableWindow}
 use Rattle.model.proofs.Views.{upper_recoded, selected_upper, protected_upper, Passes, Visible, in_view, in_writable, same_verdict, SameView, view_revised, stored_other, set_agrees, slot_set}
 
@@ -50,6 +51,10 @@ relocated_write :
     (a : ℕ) (f : ℕ → ℕ) (s : State) → relocated s.status ≡ true →
     and_then (translated Write a s) (λ r t. went 0 (written_at r f t)) ≡ write_by (verdict Write s.segments a) (real s.segments a) f s
 relocated_write a f s e = rw e (judged_write (verdict Write s.segments a) (real s.segments a) f s e)
+
+-- No register is missing.
+abbrev pub Full : State → Type 0
+Full s = length s.registers ≡ register_count
 
 -- ── Two machines that look alike, by program address, with all their registers ──
 pub record TwinOf
@@ -206,16 +211,15 @@ module _ (s t : State) (h : Abreast s t) where
       both_on (relocated s.status) (relocated t.status) _ _ _ _ h.1.protects.relocates relocates'
       (subst (λ (x : Verdict). SameOut (inspected v s) (inspected x t)) (one_verdict u (address a)) (same_check v s t h))
 
-  -- A privileged effect stops both.
-  forbidden_alike : (x y : Out) → SameOut (unless_protected s x) (unless_protected t y)
-  forbidden_alike x y =
-      both_on (protected s.status) (protected t.status) (stopped Illegal s) (stopped Illegal t) x y h.1.protects.forbids forbids' (refl, h.1)
+  -- A privileged effect stops both, each by what it is under protection.
+  forbidden_alike : (x y u v : Out) → SameOut x y → SameOut (cond (protected s.status) x u) (cond (protected t.status) y v)
+  forbidden_alike x y u v = both_on (protected s.status) (protected t.status) x y u v h.1.protects.forbids forbids'
 
 -- The induction.
 pub runs_alike : (f g : Bus) (p : Prog) (s t : State) → Abreast s t → SameOut (run f p s) (run g p t)
 runs_alike f g (ret v) s t h = (refl, h)
 runs_alike f g (stop c) s t h = (refl, h.1)
-runs_alike f g privileged s t h = forbidden_alike s t h _ _
+runs_alike f g privileged s t h = forbidden_alike s t h _ _ _ _ (refl, h.1)
 runs_alike f g (reg n) s t h = (h.1.same_registers n, h)
 runs_alike f g (set_reg n v) s t h = (refl, (h.0, twin_register n v s t h.1))
 runs_alike f g get_code s t h = (ap code_of h.1.same_status, h)
@@ -226,60 +230,62 @@ runs_alike f g (fetch a) s t h = reads_alike s t h Fetch a
 runs_alike f g (load a) s t h = reads_alike s t h Read a
 runs_alike f g (store a w) s t h = writes_alike s t h a w
 runs_alike f g (check u a) s t h = checks_alike s t h u a
-runs_alike f g get_status s t h = forbidden_alike s t h _ _
-runs_alike f g (set_status v) s t h = forbidden_alike s t h _ _
-runs_alike f g (answers n) s t h = forbidden_alike s t h _ _
-runs_alike f g (sense n) s t h = forbidden_alike s t h _ _
-runs_alike f g (read_from n) s t h = forbidden_alike s t h _ _
-runs_alike f g (write_to n v) s t h = forbidden_alike s t h _ _
-runs_alike f g (command_to n v) s t h = forbidden_alike s t h _ _
+runs_alike f g get_status s t h = forbidden_alike s t h _ _ _ _ (refl, h.1)
+runs_alike f g (set_status v) s t h = forbidden_alike s t h _ _ _ _ (refl, h.1)
+runs_alike f g (answers n) s t h = forbidden_alike s t h _ _ _ _ (refl, h.1)
+runs_alike f g (sense n) s t h = forbidden_alike s t h _ _ _ _ (refl, h.1)
+runs_alike f g (read_from n) s t h = forbidden_alike s t h _ _ _ _ (refl, h.1)
+runs_alike f g (write_to n v) s t h = forbidden_alike s t h _ _ _ _ (refl, h.1)
+runs_alike f g (command_to n v) s t h = forbidden_alike s t h _ _ _ _ (refl, h.1)
 runs_alike f g (seq p k) s t h =
     same_then (run f p s) (run g p t) (λ v u. run f (k v) u) (λ v u. run g (k v) u) (runs_alike f g p s t h) (λ v u w e. runs_alike f g (k v) u w e)
 
 -- ── Confined ──
--- What even an interrupt leaves alone, where the places outside the writable window show what held says.
-pub record TouchedOf (segments segments' : List ℕ) (store' : Store) (held : ℕ → Place) : Type 0 where
+-- What is left alone, where status' is the present status or, after an interrupt, the one that it saved; the places outside the writable
+-- window show what held says; and the registers that filled tells are those that the interrupt put something into.
+pub record KeptOf
+    (status status' : ℕ) (registers registers' segments segments' : List ℕ) (bus bus' : Bus) (store' : Store) (held : ℕ → Place)
+    (filled : ℕ → ℕ → Type 0) : Type 0 where
   pub same_segments : segments' ≡ segments
   pub outside : (p : ℕ) → (InWritableWindow segments p → ⊥) → at store' p ≡ held p
-
-abbrev pub Touched : State → State → (ℕ → Place) → Type 0
-Touched s t held = TouchedOf s.segments t.segments t.store held
-
--- What is left alone besides where there is no interrupt.
-pub record KeptOf
-    (status status' : ℕ) (registers registers' segments segments' : List ℕ) (bus bus' : Bus) (store' : Store) (held : ℕ → Place) : Type 0 where
-  pub touched : TouchedOf segments segments' store' held
   pub same_upper : upper status' ≡ upper status
-  pub other_sets : (k n : ℕ) → (k ≡ selected status → ⊥) → get_or registers' (slot k n) 0 ≡ get_or registers (slot k n) 0
+  pub other_sets :
+      (k n : ℕ) → (k ≡ selected status → ⊥) → (filled k n → ⊥) → get_or registers' (slot k n) 0 ≡ get_or registers (slot k n) 0
   pub same_bus : bus' ≡ bus
+  pub same_count : length registers' ≡ length registers
 
+-- .. by what takes no interrupt, and through an interrupt with the record r, which left t.
 abbrev pub Kept : State → State → (ℕ → Place) → Type 0
 Kept s t held =
-    KeptOf s.status t.status s.registers t.registers s.segments t.segments s.bus t.bus t.store held
+    KeptOf s.status t.status s.registers t.registers s.segments t.segments s.bus t.bus t.store held (λ _ _. ⊥)
+
+abbrev pub KeptThrough : State → Record → State → (ℕ → Place) → Type 0
+KeptThrough s r t held =
+    KeptOf s.status r.status s.registers t.registers s.segments t.segments s.bus t.bus t.store held (Fills r.cause)
 
 -- The store alone is altered.
 pub kept_but_store : (s : State) (m : Store) (held : ℕ → Place) → ((p : ℕ) → (InWritableWindow s.segments p → ⊥) → at m p ≡ held p) → Kept s (with_store m s) held
 kept_but_store s m held e =
-    record { touched = record { same_segments = refl; outside = e }; same_upper = refl; other_sets = λ _ _ _. refl; same_bus = refl }
+    record { same_segments = refl; outside = e; same_upper = refl; other_sets = λ _ _ _ _. refl; same_bus = refl; same_count = refl }
 
 pub kept_same : (s : State) → Kept s s (at s.store)
 kept_same s = kept_but_store s s.store (at s.store) (λ _ _. refl)
 
 -- One after the other: later says what each place shows in the end, by what it showed between.
-module _ (s t u : State) (held : ℕ → Place) (later : ℕ → Place → Place) (h : Kept s t held) where
-  pub touched_then : Touched t u (λ p. later p (at t.store p)) → Touched s u (λ p. later p (held p))
-  touched_then k = let e = h.touched.same_segments in record {
-    same_segments = k.same_segments ∙ e;
-    outside = λ p o. k.outside p (subst (λ (g : List ℕ). InWritableWindow g p → ⊥) (sym e) o) ∙ ap (later p) (h.touched.outside p o);
-  }
-
-  pub kept_trans : Kept t u (λ p. later p (at t.store p)) → Kept s u (λ p. later p (held p))
-  kept_trans k = record {
-    touched = touched_then k.touched;
-    same_upper = k.same_upper ∙ h.same_upper;
-    other_sets = λ j n o. k.other_sets j n (λ e. o (e ∙ selected_upper t.status s.status h.same_upper)) ∙ h.other_sets j n o;
-    same_bus = k.same_bus ∙ h.same_bus;
-  }
+pub kept_then :
+    (s t : State) (status' : ℕ) (registers' segments' : List ℕ) (bus' : Bus) (store' : Store) (filled : ℕ → ℕ → Type 0) (held : ℕ → Place)
+    (later : ℕ → Place → Place) → Kept s t held →
+    KeptOf t.status status' t.registers registers' t.segments segments' t.bus bus' store' (λ p. later p (at t.store p)) filled →
+    KeptOf s.status status' s.registers registers' s.segments segments' s.bus bus' store' (λ p. later p (held p)) filled
+kept_then s t status' registers' segments' bus' store' filled held later h k = let e = h.same_segments in record {
+  same_segments = k.same_segments ∙ e;
+  outside = λ p o. k.outside p (subst (λ (g : List ℕ). InWritableWindow g p → ⊥) (sym e) o) ∙ ap (later p) (h.outside p o);
+  same_upper = k.same_upper ∙ h.same_upper;
+  other_sets = λ j n o f.
+      k.other_sets j n (λ e. o (e ∙ selected_upper t.status s.status h.same_upper)) f ∙ h.other_sets j n o (λ z. z);
+  same_bus = k.same_bus ∙ h.same_bus;
+  same_count = k.same_count ∙ h.same_count;
+}
 
 -- .. by a tree of effects, however it ends.
 abbrev pub KeptBy : State → Out → Type 0
@@ -287,14 +293,14 @@ KeptBy s (went v t) = Kept s t (at s.store)
 KeptBy s (stopped c t) = Kept s t (at s.store)
 
 kept_after : (s t : State) (x : Out) → Kept s t (at s.store) → KeptBy t x → KeptBy s x
-kept_after s t (went v u) h k = kept_trans s t u (at s.store) (λ _ x. x) h k
-kept_after s t (stopped c u) h k = kept_trans s t u (at s.store) (λ _ x. x) h k
+kept_after s t (went v u) h k = kept_then s t _ _ _ _ _ _ (at s.store) (λ _ x. x) h k
+kept_after s t (stopped c u) h k = kept_then s t _ _ _ _ _ _ (at s.store) (λ _ x. x) h k
 
-kept_then :
+kept_and_then :
     (s : State) (x : Out) (f : ℕ → State → Out) → Protected s.status → KeptBy s x →
     ((v : ℕ) (t : State) → Protected t.status → KeptBy t (f v t)) → KeptBy s (and_then x f)
-kept_then s (went v t) f g h k = kept_after s t (f v t) h (k v t (protected_upper t.status s.status h.same_upper g))
-kept_then s (stopped c t) f g h k = h
+kept_and_then s (went v t) f g h k = kept_after s t (f v t) h (k v t (protected_upper t.status s.status h.same_upper g))
+kept_and_then s (stopped c t) f g h k = h
 
 kept_on : (b : Bool) (s : State) (x u : Out) → b ≡ true → KeptBy s x → KeptBy s (cond b x u)
 kept_on true s x u p h = h
@@ -332,98 +338,38 @@ module _ (s : State) (g : Protected s.status) where
   checks_kept : (u : Access) (a : ℕ) → KeptBy s (checked u (address a) s)
   checks_kept u a = kept_on (relocated s.status) s _ _ g.relocates (kept_check (verdict u s.segments (address a)) s)
 
-  forbidden_kept : (x : Out) → KeptBy s (unless_protected s x)
-  forbidden_kept x = kept_on (protected s.status) s (stopped Illegal s) x g.forbids (kept_same s)
+  forbidden_kept : (x u : Out) → KeptBy s x → KeptBy s (cond (protected s.status) x u)
+  forbidden_kept x u = kept_on (protected s.status) s x u g.forbids
 
 -- The induction.
 pub runs_kept : (f : Bus) (p : Prog) (s : State) → Protected s.status → KeptBy s (run f p s)
 runs_kept f (ret v) s g = kept_same s
 runs_kept f (stop c) s g = kept_same s
-runs_kept f privileged s g = forbidden_kept s g _
+runs_kept f privileged s g = forbidden_kept s g _ _ (kept_same s)
 runs_kept f (reg n) s g = kept_same s
 runs_kept f (set_reg n v) s g = record {
-  touched = (kept_same s).touched;
+  same_segments = refl;
+  outside = (kept_same s).outside;
   same_upper = refl;
-  other_sets = λ k j o.
+  other_sets = λ k j o _.
       get_or-set_other s.registers (slot (selected s.status) n) (slot k j) v 0 (λ e. o (slot_set k (selected s.status) j n e));
   same_bus = refl;
+  same_count = length-set s.registers (slot (selected s.status) n) v;
 }
 runs_kept f get_code s g = kept_same s
 runs_kept f (set_code c) s g =
-    record { touched = (kept_same s).touched; same_upper = upper_recoded s.status c; other_sets = λ _ _ _. refl; same_bus = refl }
+    record { same_segments = refl; outside = (kept_same s).outside; same_upper = upper_recoded s.status c; other_sets = λ _ _ _ _. refl; same_bus = refl; same_count = refl }
 runs_kept f get_location s g = kept_same s
 runs_kept f (jump a) s g = kept_same s
 runs_kept f (fetch a) s g = reads_kept s g Fetch a
 runs_kept f (load a) s g = reads_kept s g Read a
 runs_kept f (store a w) s g = writes_kept s g a w
 runs_kept f (check u a) s g = checks_kept s g u a
-runs_kept f get_status s g = forbidden_kept s g _
-runs_kept f (set_status v) s g = forbidden_kept s g _
-runs_kept f (answers n) s g = forbidden_kept s g _
-runs_kept f (sense n) s g = forbidden_kept s g _
-runs_kept f (read_from n) s g = forbidden_kept s g _
-runs_kept f (write_to n v) s g = forbidden_kept s g _
-runs_kept f (command_to n v) s g = forbidden_kept s g _
-runs_kept f (seq p k) s g = kept_then s (run f p s) (λ v u. run f (k v) u) g (runs_kept f p s g) (λ v u e. runs_kept f (k v) u e)
-
--- ── All registers stay, of any tree and any machine ──
--- No register is missing.
-abbrev pub Full : State → Type 0
-Full s = length s.registers ≡ register_count
-
-abbrev pub FullOut : Out → Type 0
-FullOut (went v s) = Full s
-FullOut (stopped c s) = Full s
-
-full_if : (b : Bool) (x y : Out) → FullOut x → FullOut y → FullOut (cond b x y)
-full_if true x y h k = h
-full_if false x y h k = k
-
-full_then : (x : Out) (f : ℕ → State → Out) → FullOut x → ((v : ℕ) (t : State) → Full t → FullOut (f v t)) → FullOut (and_then x f)
-full_then (went v t) f h k = k v t h
-full_then (stopped c t) f h k = h
-
-full_admitted : (v : Verdict) (r : ℕ) (s : State) → Full s → FullOut (admitted v r s)
-full_admitted (Err x) r s h = h
-full_admitted (Ok Plain) r s h = h
-full_admitted (Ok Reported) r s h = h
-
-full_inspected : (v : Verdict) (s : State) → Full s → FullOut (inspected v s)
-full_inspected (Err x) s h = h
-full_inspected (Ok g) s h = h
-
-full_translated : (u : Access) (a : ℕ) (s : State) → Full s → FullOut (translated u a s)
-full_translated u a s h = full_if (relocated s.status) _ _ (full_admitted (verdict u s.segments a) _ s h) h
-
-full_read : (r : ℕ) (s : State) → Full s → FullOut (read_at r s)
-full_read r s h = full_if (reaches_controller r s) _ _ h h
-
-full_written : (b : Bool) (s t : State) → Full s → Full t → Full (cond b s t)
-full_written true s t h k = h
-full_written false s t h k = k
-
--- The induction.
-pub runs_full : (f : Bus) (p : Prog) (s : State) → Full s → FullOut (run f p s)
-runs_full f (ret v) s h = h
-runs_full f (stop c) s h = h
-runs_full f privileged s h = full_if (protected s.status) _ _ h h
-runs_full f (reg n) s h = h
-runs_full f (set_reg n v) s h = length-set s.registers (slot (selected s.status) n) v ∙ h
-runs_full f get_code s h = h
-runs_full f (set_code c) s h = h
-runs_full f get_location s h = h
-runs_full f (jump a) s h = h
-runs_full f (fetch a) s h = full_then (translated Fetch (address a) s) read_at (full_translated Fetch (address a) s h) full_read
-runs_full f (load a) s h = full_then (translated Read (address a) s) read_at (full_translated Read (address a) s h) full_read
-runs_full f (store a w) s h =
-    full_then (translated Write (address a) s) (λ r t. went 0 (written_at r w t)) (full_translated Write (address a) s h)
-    (λ r t k. full_written (reaches_controller r t) _ _ k k)
-runs_full f (check u a) s h = full_if (relocated s.status) _ _ (full_inspected (verdict u s.segments (address a)) s h) h
-runs_full f get_status s h = full_if (protected s.status) _ _ h h
-runs_full f (set_status v) s h = full_if (protected s.status) _ _ h h
-runs_full f (answers n) s h = full_if (protected s.status) _ _ h h
-runs_full f (sense n) s h = full_if (protected s.status) _ _ h h
-runs_full f (read_from n) s h = full_if (protected s.status) _ _ h (full_if (s.bus n).answers _ _ h h)
-runs_full f (write_to n v) s h = full_if (protected s.status) _ _ h (full_if (s.bus n).answers _ _ h h)
-runs_full f (command_to n v) s h = full_if (protected s.status) _ _ h (full_if (s.bus n).answers _ _ h h)
-runs_full f (seq p k) s h = full_then (run f p s) (λ v u. run f (k v) u) (runs_full f p s h) (λ v u e. runs_full f (k v) u e)
+runs_kept f get_status s g = forbidden_kept s g _ _ (kept_same s)
+runs_kept f (set_status v) s g = forbidden_kept s g _ _ (kept_same s)
+runs_kept f (answers n) s g = forbidden_kept s g _ _ (kept_same s)
+runs_kept f (sense n) s g = forbidden_kept s g _ _ (kept_same s)
+runs_kept f (read_from n) s g = forbidden_kept s g _ _ (kept_same s)
+runs_kept f (write_to n v) s g = forbidden_kept s g _ _ (kept_same s)
+runs_kept f (command_to n v) s g = forbidden_kept s g _ _ (kept_same s)
+runs_kept f (seq p k) s g = kept_and_then s (run f p s) (λ v u. run f (k v) u) g (runs_kept f p s g) (λ v u e. runs_kept f (k v) u e)

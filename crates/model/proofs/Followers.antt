@@ -115,12 +115,12 @@ module _ (meaning : ℕ → Prog) where
       ((r : State) → Twin (core_of w e) r → (core_of w e).segments ≡ segments → NoDeviceInterrupt rest → Follows rest r) →
       Follows (joined (event_of w e) (core_of w e) rest) r
   follows_step g w r (finished a) (finished b) rest c h k i d f =
-      follows_goes g r (stepped Done) a (finished b) rest c refl tt h (k.touched.same_segments ∙ i) d f
+      follows_goes g r (stepped Done) a (finished b) rest c refl tt h (k.same_segments ∙ i) d f
   follows_step g w r (finished a) (waiting b) rest c h k i d f = absurd h
   follows_step g w r (finished a) (took q b) rest c h k i d f = absurd h
   follows_step g w r (waiting a) (finished b) rest c h k i d f = absurd h
   follows_step g w r (waiting a) (waiting b) rest c h k i d f =
-      follows_goes g r (stepped Waiting) a (waiting b) rest c refl tt h (k.touched.same_segments ∙ i) d f
+      follows_goes g r (stepped Waiting) a (waiting b) rest c refl tt h (k.same_segments ∙ i) d f
   follows_step g w r (waiting a) (took q b) rest c h k i d f = absurd h
   follows_step g w r (took p a) (finished b) rest c h k i d f = absurd h
   follows_step g w r (took p a) (waiting b) rest c h k i d f = absurd h
@@ -139,7 +139,7 @@ module _ (meaning : ℕ → Prog) where
       let x = step_of meaning reply s in
       let n = no_device_lem w x (core_of w x) rest d in
       follows_step g w r x (calm r) rest refl (served_alike meaning reply r.bus (poll s) s r h n)
-      (served_kept meaning reply (poll s) s h.protects n) i d f
+      (served_kept meaning reply (poll s) s h.protects h.full n) i d f
 
   -- Every list of calls goes so, from a machine beside it.
   pub follows :

@@ -1,6 +1,10 @@
 pub mod Views
+pub mod Requests
+pub mod Denials
 pub mod Effects
+pub mod Interrupts
 pub mod Steps
+pub mod Lasting
 pub mod Histories
 pub mod Calls
 pub mod Followers

@@ -1,20 +1,22 @@
 -- One step, with the interrupt that it takes.
-use Rattle.std.proofs.Common.{◌≡◌, ℕ, Bool, true, false, cond, List, length, get_or, set, Some, None, Option, refl, ap, ◌∙◌, subst, true≢false, arith, length-set, get_or-set_other, get_or-set_same}
+use Rattle.std.proofs.Common.{◌≡◌, ℕ, Bool, true, false, cond, List, length, Some, None, Option, refl, ap, ◌∙◌, subst, true≢false, length-set}
 use mathlib.Core.Bool.{false≢true}
 use Rattle.model.specs.declared.Trap.{Trap}
 use Rattle.model.specs.declared.Trap.TheVariants.{Illegal, Arithmetic, Refusal, Supervisor}
 use Rattle.model.specs.declared.Cause.{Cause}
 use Rattle.model.specs.declared.Cause.TheVariants.{IllegalInstruction, ArithmeticFault, AccessFault, SupervisorCall, DeviceRequest}
 use Rattle.model.specs.declared.Record.{Record}
-use Rattle.model.specs.Stores.{at}
+use Rattle.model.specs.Stores.{Store, at}
 use Rattle.model.specs.Buses.{Bus}
 use Rattle.model.specs.States.{State, with_pending}
-use Rattle.model.specs.Status.{waits, arithmetic_on, register_count, slot}
+use Rattle.model.specs.Status.{upper, waits, arithmetic_on, register_count, slot}
 use Rattle.model.specs.Effects.{Out, went, stopped, Prog, run}
-use Rattle.model.specs.Steps.{Ending, finished, waiting, took, recorded, into_zero, saved, loaded, interrupted, ended, poll, cycle, proceeded, served, stepped}
+use Rattle.model.specs.Steps.{Ending, finished, waiting, took, recorded, into_zero, saved, loaded, interrupted, supervised, ended, cycle, proceeded, served}
 use Rattle.model.specs.Windows.{Protected}
-use Rattle.model.specs.Isolation.{SavesTheSame}
-use Rattle.model.proofs.Effects.{Twin, SameOut, runs_alike, Touched, Kept, KeptBy, kept_same, runs_kept, Full, FullOut, runs_full}
+use Rattle.model.specs.Interrupts.{LeavesRest}
+use Rattle.model.specs.Isolation.{Saves, SavesTheSame}
+use Rattle.model.proofs.Effects.{Twin, SameOut, runs_alike, Kept, KeptThrough, KeptBy, kept_same, kept_then, runs_kept, Full}
+use Rattle.model.proofs.Interrupts.{into_count, saved_status, saved_location, saved_count, FillsTwo, illegal_fills, arithmetic_fills, access_fills, by_vector, by_supervisor}
 
 -- ── Alike ──
 -- Two interrupts of one cause that save the same.
@@ -39,16 +41,6 @@ abbrev pub NotDevice : Ending → Type 0
 NotDevice (finished s) = Unit {0}
 NotDevice (waiting s) = Unit {0}
 NotDevice (took r s) = r.cause ≡ DeviceRequest → ⊥
-
--- What an interrupt puts into registers 14 and 15 of set 0.
-saved_status : (registers : List ℕ) (status own : ℕ) → length registers ≡ register_count → get_or (saved status own registers) (slot 0 14) 0 ≡ status
-unfolding slot
-saved_status registers status own h =
-    get_or-set_other (set registers 14 status) 15 14 own 0 (λ e. omega arith) ∙ get_or-set_same registers 14 status 0 (omega arith)
-
-saved_location : (registers : List ℕ) (status own : ℕ) → length registers ≡ register_count → get_or (saved status own registers) (slot 0 15) 0 ≡ own
-unfolding slot
-saved_location registers status own h = get_or-set_same (set registers 14 status) 15 own 0 (simp length-set (omega arith))
 
 -- Two interrupts of one cause.
 taken_alike :
@@ -95,43 +87,44 @@ ends_alike own o (stopped c s) (stopped d t) e h =
     subst (λ (x : Trap). SameEnd (ended own (stopped c s)) (ended o (stopped x t))) h.0 (stopped_alike own o c s t e h.1)
 
 -- ── Confined ──
--- What a step leaves alone.
+-- What a step leaves alone; an interrupt saves the PSW.
 abbrev pub KeptEnd : State → Ending → Type 0
 KeptEnd s (finished t) = Kept s t (at s.store)
 KeptEnd s (waiting t) = Kept s t (at s.store)
-KeptEnd s (took r t) = Touched s t (at s.store)
+KeptEnd s (took r t) = KeptThrough s r t (at s.store) × Saves r t
 
 kept_cond : (b : Bool) (s : State) (x y : Ending) → KeptEnd s x → KeptEnd s y → KeptEnd s (cond b x y)
 kept_cond true s x y h k = h
 kept_cond false s x y h k = k
 
-ends_kept : (own : ℕ) (s : State) (x : Out) → KeptBy s x → KeptEnd s (ended own x)
-ends_kept own s (went v t) h = kept_cond t.pending s _ _ h.touched h
-ends_kept own s (stopped Illegal t) h = h.touched
-ends_kept own s (stopped Arithmetic t) h = kept_cond (arithmetic_on t.status) s _ _ h.touched h
-ends_kept own s (stopped Refusal t) h = h.touched
-ends_kept own s (stopped (Supervisor n a) t) h = h.touched
+-- The instruction left s as x; then an interrupt left x as t.
+through : (s x t : State) (r : Record) → Kept s x (at s.store) → r.status ≡ x.status → length t.registers ≡ length x.registers → LeavesRest r.cause x t → KeptThrough s r t (at s.store)
+through s x t r h e n k = kept_then s x _ _ _ _ _ _ (at s.store) (λ _ z. z) h (record {
+  same_segments = k.segments;
+  outside = λ p _. ap (λ (m : Store). at m p) k.store;
+  same_upper = ap upper e;
+  other_sets = λ j i _ o. k.registers j i o;
+  same_bus = k.bus;
+  same_count = n;
+})
 
--- ── All registers stay ──
--- However the step ends.
-abbrev pub FullEnd : Ending → Type 0
-FullEnd (finished s) = Full s
-FullEnd (waiting s) = Full s
-FullEnd (took r s) = Full s
+vector_kept : (c : Cause) (v own : ℕ) (s x : State) → FillsTwo c → Full s → Kept s x (at s.store) → KeptEnd s (interrupted c v own x)
+vector_kept c v own s x f n h =
+    let w = by_vector c v own x f (h.same_count ∙ n) in
+    (through s x _ (recorded c own x) h refl (saved_count x.registers x.status own) w.rest, record { status = w.old_status; location = w.old_location })
 
-full_cond : (b : Bool) (x y : Ending) → FullEnd x → FullEnd y → FullEnd (cond b x y)
-full_cond true x y h k = h
-full_cond false x y h k = k
+supervisor_kept : (n a : ℕ) (s x : State) → Full s → Kept s x (at s.store) → KeptEnd s (supervised n a x)
+supervisor_kept n a s x f h =
+    let w = by_supervisor n a x (h.same_count ∙ f) in
+    (through s x _ (recorded SupervisorCall x.location x) h refl (saved_count (into_zero 13 a x.registers) x.status x.location ∙ into_count 13 a x.registers) w.rest, record { status = w.old_status; location = w.old_location })
 
-full_saved : (registers : List ℕ) (status own : ℕ) → length registers ≡ register_count → length (saved status own registers) ≡ register_count
-full_saved registers status own h = simp length-set h
-
-ends_full : (own : ℕ) (x : Out) → FullOut x → FullEnd (ended own x)
-ends_full own (went v t) h = full_cond t.pending _ _ (full_saved t.registers _ _ h) h
-ends_full own (stopped Illegal t) h = full_saved t.registers _ _ h
-ends_full own (stopped Arithmetic t) h = full_cond (arithmetic_on t.status) _ _ (full_saved t.registers _ _ h) h
-ends_full own (stopped Refusal t) h = full_saved t.registers _ _ h
-ends_full own (stopped (Supervisor n a) t) h = full_saved (into_zero 13 a t.registers) _ _ (length-set t.registers (slot 0 13) a ∙ h)
+ends_kept : (own : ℕ) (s : State) (x : Out) → Full s → KeptBy s x → KeptEnd s (ended own x)
+ends_kept own s (went v t) n h = kept_cond t.pending s _ _ (vector_kept AccessFault 0x90 t.location s t access_fills n h) h
+ends_kept own s (stopped Illegal t) n h = vector_kept IllegalInstruction 0x30 own s t illegal_fills n h
+ends_kept own s (stopped Arithmetic t) n h =
+    kept_cond (arithmetic_on t.status) s _ _ (vector_kept ArithmeticFault 0x48 t.location s t arithmetic_fills n h) h
+ends_kept own s (stopped Refusal t) n h = vector_kept AccessFault 0x90 own s t access_fills n h
+ends_kept own s (stopped (Supervisor i a) t) n h = supervisor_kept i a s t n h
 
 -- ── The step ──
 module _ (meaning : ℕ → Prog) where
@@ -145,17 +138,8 @@ module _ (meaning : ℕ → Prog) where
       (ends_alike s.location t.location (run f (cycle meaning) (with_pending false s)) (run g (cycle meaning) (with_pending false t)) h.same_location
       (runs_alike f g (cycle meaning) (with_pending false s) (with_pending false t) (refl, h)))
 
-  pub served_kept : (f : Bus) (o : Option ℕ) (s : State) → Protected s.status → NotDevice (served meaning f o s) → KeptEnd s (served meaning f o s)
-  served_kept f (Some n) s g d = absurd (d refl)
-  served_kept f None s g d =
+  pub served_kept : (f : Bus) (o : Option ℕ) (s : State) → Protected s.status → Full s → NotDevice (served meaning f o s) → KeptEnd s (served meaning f o s)
+  served_kept f (Some n) s g h d = absurd (d refl)
+  served_kept f None s g h d =
       kept_cond (waits s.status) s _ _ (kept_same s)
-      (ends_kept s.location s (run f (cycle meaning) (with_pending false s)) (runs_kept f (cycle meaning) (with_pending false s) g))
-
-  served_full : (f : Bus) (o : Option ℕ) (s : State) → Full s → FullEnd (served meaning f o s)
-  served_full f (Some n) s h = simp length-set h
-  served_full f None s h =
-      full_cond (waits s.status) _ _ h
-      (ends_full s.location (run f (cycle meaning) (with_pending false s)) (runs_full f (cycle meaning) (with_pending false s) h))
-
-  pub steps_full : (f : Bus) (s : State) → Full s → FullEnd (stepped meaning f s)
-  steps_full f s h = served_full f (poll s) s h
+      (ends_kept s.location s (run f (cycle meaning) (with_pending false s)) h (runs_kept f (cycle meaning) (with_pending false s) g))

@@ -10,7 +10,7 @@ use Rattle.model.specs.Calls.{Continued, Event, unseen, answered, interrupted, C
 use Rattle.model.specs.Isolation.{SameAnswers, StillAlike, SameSaving, Allowed, IsolationOfAny, Isolation}
 use Rattle.model.proofs.Views.{SameView, view_of, Visible}
 use Rattle.model.proofs.Effects.{Full, Twin}
-use Rattle.model.proofs.Histories.{full_reached}
+use Rattle.model.proofs.Histories.{registers_stay}
 use Rattle.model.proofs.Calls.{no_device_later}
 use Rattle.model.proofs.Followers.{follows, same_answers_lem, StillTwin, still_twin_lem, same_saving_lem}
 use Rattle.model.proofs.Confinement.{confined}
@@ -112,8 +112,8 @@ pub isolation_of_any : IsolationOfAny
 isolation_of_any meaning w v m n a l k p q =
     let h = alike_twin w.core v.core a m n in
     let x = by_address meaning w v h l k p q in
-    let one = λ (i : ℕ). confined meaning w (take i l) a.one_protects (allowed_part meaning i l w p) in
-    let other = λ (j : ℕ). confined meaning v (take j k) a.other_protects (allowed_part meaning j k v q) in
+    let one = λ (i : ℕ). confined meaning w (take i l) a.one_protects m (allowed_part meaning i l w p) in
+    let other = λ (j : ℕ). confined meaning v (take j k) a.other_protects n (allowed_part meaning j k v q) in
     record {
       same_answers = x.same_answers;
       still_alike = λ i j.
@@ -125,4 +125,4 @@ isolation_of_any meaning w v m n a l k p q =
     }
 
 pub isolation : Isolation
-isolation meaning m n b d w v past other = isolation_of_any meaning w v (full_reached meaning past) (full_reached meaning other)
+isolation meaning m n b d w v past other = isolation_of_any meaning w v (registers_stay meaning m b w past) (registers_stay meaning n d v other)

@@ -8,8 +8,9 @@ use Rattle.model.specs.Status.{upper, selected, slot, register_count}
 use Rattle.model.specs.Effects.{Prog}
 use Rattle.model.specs.Answers.{done}
 use Rattle.model.specs.Console.{Desk}
+use Rattle.model.specs.Interrupts.{Fills}
 use Rattle.model.specs.Windows.{InWritableWindow, LookAlike}
-use Rattle.model.specs.Calls.{Reached, Continued, Course, quiet, broken, answers, final, Quiet, NoDeviceInterrupt, course, AllOutside, by_deposits}
+use Rattle.model.specs.Calls.{Reached, Continued, Course, quiet, broken, answers, final, NoDeviceInterrupt, course, AllOutside, by_deposits}
 
 -- ── Same answers ──
 -- Up to and including the first interrupt, the k-th accepted step gives the same answer in both.
@@ -41,21 +42,37 @@ SameSaving (quiet xs s) d = Unit {0}
 SameSaving (broken xs r s) (quiet ys t) = Unit {0}
 SameSaving (broken xs r s) (broken ys q t) = SavesTheSame r q s t
 
+-- ── Confinement ──
+-- Bits 0 to 27 of the status that an interrupt saved, in its record and in register 14 of set 0, are those of the status before.
+pub record SavesUpper (before : ℕ) (r : Record) (s : State) : Type 0 where
+  pub in_record : upper r.status ≡ upper before
+  pub in_register : upper (slice_index s.registers (slot 0 14)) ≡ upper before
+
+-- .. and so are those of the present status where there was no interrupt.
+abbrev pub SameUpper : ℕ → Course → Type 0
+SameUpper before (quiet xs s) = upper s.status ≡ upper before
+SameUpper before (broken xs r s) = SavesUpper before r s
+
+-- The interrupt of a course, if it had one, put something into register n of set k.
+abbrev pub FilledByInterrupt : Course → ℕ → ℕ → Type 0
+FilledByInterrupt (quiet xs s) k n = ⊥
+FilledByInterrupt (broken xs r s) k n = Fills r.cause k n
+
 module _ (meaning : ℕ → Prog) where
-  -- ── Confinement ──
-  -- What the list l leaves alone in the machine w. Through the first interrupt: the segmentation registers, and every place outside
-  -- the writable window, which shows the last deposit accepted there, else what it showed before. Before it: every register set k of the
-  -- file but the selected one, status bits 0 to 27, and the whole bus.
+  -- What the list l leaves alone in the machine w, up to and including its first interrupt, the instruction of that step too: the
+  -- segmentation registers; every place outside the writable window, which shows the last deposit accepted there, else what it showed
+  -- before; every register set k of the file but the one selected at the start, save for what the interrupt puts into registers of
+  -- set 0; status bits 0 to 27, up to the saving; and the whole bus.
   pub record Confined (w : Desk) (l : List Continued) : Type 0 where
     pub segments : (final (course meaning l w)).segments ≡ w.core.segments
     pub places :
         (p : ℕ) → (InWritableWindow w.core.segments p → ⊥) →
         at (final (course meaning l w)).store p ≡ by_deposits meaning p l w (at w.core.store p)
     pub other_sets :
-        Quiet (course meaning l w) → (k n : ℕ) → (k ≢ selected w.core.status) →
+        (k n : ℕ) → k ≢ selected w.core.status → (FilledByInterrupt (course meaning l w) k n → ⊥) →
         slice_index (final (course meaning l w)).registers (slot k n) ≡ slice_index w.core.registers (slot k n)
-    pub status : Quiet (course meaning l w) → upper (final (course meaning l w)).status ≡ upper w.core.status
-    pub devices : Quiet (course meaning l w) → (final (course meaning l w)).bus ≡ w.core.bus
+    pub status : SameUpper w.core.status (course meaning l w)
+    pub devices : (final (course meaning l w)).bus ≡ w.core.bus
 
   -- ── The whole ──
   -- What is asked of the list l for the machine w: no deposit in the window that is there at its start, and no device's interrupt as the

@@ -4,6 +4,7 @@
 
 ghost use Rattle.model.specs.Isolation.{Isolation};
 
+pub mod laws;
 mod numbers;
 mod wording;
 

@@ -1,0 +1,5 @@
+use Rattle.model.proofs.laws.interrupts_do_as_told.Goals as goal
+use Rattle.model.proofs.Interrupts.{interrupts_in_words as law}
+
+pub returns : goal.returns
+returns c = law

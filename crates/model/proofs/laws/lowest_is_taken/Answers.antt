@@ -1,0 +1,5 @@
+use Rattle.model.proofs.laws.lowest_is_taken.Goals as goal
+use Rattle.model.proofs.Requests.{lowest_is_taken as law}
+
+pub returns : goal.returns
+returns c = law

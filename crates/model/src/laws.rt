@@ -1,0 +1,38 @@
+//! Laws above the definitions, each the contract of a function that does nothing.
+ghost use Rattle.model.specs.Denials.{FirstIsGiven};
+ghost use Rattle.model.specs.Interrupts.{InterruptsInWords};
+ghost use Rattle.model.specs.Lasting.{PlacesStay, StoresStaySound, RegistersStay, SegmentsStay, UnusedBitsStayZero};
+ghost use Rattle.model.specs.Requests.{LowestIsTaken};
+
+/// A store stays sound, whatever calls its machine gets: as many places are fitted, each is of its kind, and what is not writable
+/// reads what it read.
+pub fn stores_stay_sound()
+    ensures places { PlacesStay }
+    ensures sound { StoresStaySound }
+{}
+
+/// The eight unused bits of each segmentation register are zero, whatever calls the machine gets.
+pub fn unused_bits_stay_zero()
+    ensures { UnusedBitsStayZero }
+{}
+
+/// No register is lost, whatever calls the machine gets.
+pub fn registers_stay()
+    ensures general { RegistersStay }
+    ensures segmentation { SegmentsStay }
+{}
+
+/// The device whose request is taken is the lowest of 1 to 255 that requests.
+pub fn lowest_is_taken()
+    ensures { LowestIsTaken }
+{}
+
+/// A call is denied by the first denial that applies, in the order 7, 8, 5, 6, 1, 2, 3, 4, 9.
+pub fn first_denial_is_given()
+    ensures { FirstIsGiven }
+{}
+
+/// Which registers an interrupt fills and with what, which PSW it loads, and that all else stays.
+pub fn interrupts_do_as_told()
+    ensures { InterruptsInWords }
+{}
