@@ -24,7 +24,7 @@ unfolding used
 unused_set v = grind (arith, nat_tests)
 
 -- ── Chains of denials ──
--- The first of the denials d with each its test: one, two and up to four tests.
+-- Two tests, and one.
 two : (x y : Bool) (d e : Denial) → or_else (deny_if x (number d)) (deny_if y (number e)) ≡ option_map number (cond x (Some d) (cond y (Some e) None))
 two true y d e = refl
 two false true d e = refl
@@ -40,8 +40,8 @@ ahead true d more rest e = refl
 ahead false d more rest e = e
 
 keyed :
-    (off_ lock_ : Bool) (more : Option ℕ) (rest : Option Denial) → more ≡ option_map number rest →
-    or_else (or_else (deny_if off_ 7) (deny_if lock_ 8)) more ≡ option_map number (cond off_ (Some KeyOff) (cond lock_ (Some KeyLocked) rest))
+    (x y : Bool) (more : Option ℕ) (rest : Option Denial) → more ≡ option_map number rest →
+    or_else (or_else (deny_if x 7) (deny_if y 8)) more ≡ option_map number (cond x (Some KeyOff) (cond y (Some KeyLocked) rest))
 keyed true y more rest e = refl
 keyed false true more rest e = refl
 keyed false false more rest e = e

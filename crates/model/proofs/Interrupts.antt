@@ -1,15 +1,17 @@
 -- What an interrupt does to the registers: what it fills, and that all others stay.
-use Rattle.std.proofs.Common.{◌≡◌, ℕ, ◌+◌, ◌*◌, ◌%◌, ◌^◌, ◌<◌, Bool, true, false, cond, List, length, get_or, sym, refl, ◌∙◌, arith, length-set, get_or-set_other, get_or-set_same, lit<}
+use Rattle.std.proofs.Common.{◌≡◌, ℕ, ◌+◌, ◌*◌, ◌%◌, ◌^◌, ◌<◌, Bool, true, false, cond, List, length, get_or, Some, None, Option, sym, refl, ap, ◌∙◌, subst, arith, length-set, get_or-set_other, get_or-set_same, lit<}
 use Rattle.std.specs.Prelude.{slice_index_or}
 use mathlib.Core.Bool.{false≢true}
 use Rattle.model.specs.declared.Cause.{Cause}
 use Rattle.model.specs.declared.Cause.TheVariants.{IllegalInstruction, ArithmeticFault, AccessFault, SupervisorCall, DeviceRequest}
 use Rattle.model.specs.declared.Record.{Record}
 use Rattle.model.specs.Stores.{half_at}
+use Rattle.model.specs.Buses.{lowest}
 use Rattle.model.specs.States.{State}
 use Rattle.model.specs.Status.{arithmetic_on, register_count, slot, counter, to_half}
-use Rattle.model.specs.Steps.{Ending, recorded, into_zero, saved, interrupted, supervised, requested}
+use Rattle.model.specs.Steps.{Ending, recorded, into_zero, saved, interrupted, supervised, requested, poll, served}
 use Rattle.model.specs.Interrupts.{filled_registers, Fills, Records, ByVector, BySupervisor, ByDevice, Took, InterruptsInWords}
+use Rattle.model.proofs.Requests.{lowest_is_taken}
 
 -- ── One register of set 0 ──
 into_same : (m v : ℕ) (registers : List ℕ) → length registers ≡ register_count → m < 16 → get_or (into_zero m v registers) (slot 0 m) 0 ≡ v
@@ -154,7 +156,9 @@ took_if false x y P e h = absurd (false≢true e)
 
 pub interrupts_in_words : InterruptsInWords
 interrupts_in_words = record {
-  device = by_device;
+  device = λ meaning reply n s h p l.
+      let e : poll s ≡ Some n = ap (λ (b : Bool). cond b (lowest s.bus) None) p ∙ (lowest_is_taken.device s.bus n).1 l in
+      subst (λ (o : Option ℕ). Took (served meaning reply o s) (ByDevice n s)) (sym e) (by_device n s h);
   supervisor_call = λ own n a s h. by_supervisor n a s h;
   illegal = λ own s h. by_vector IllegalInstruction 0x30 own s illegal_fills h;
   arithmetic = λ own s h e. took_if (arithmetic_on s.status) _ _ _ e (by_vector ArithmeticFault 0x48 s.location s arithmetic_fills h);

@@ -71,11 +71,6 @@ abbrev pub final : Course → State
 final (quiet xs s) = s
 final (broken xs r s) = s
 
--- There was no interrupt.
-abbrev pub Quiet : Course → Type 0
-Quiet (quiet xs s) = Unit {0}
-Quiet (broken xs r s) = ⊥
-
 -- The first interrupt, if there was one, was not a device's.
 abbrev pub NoDeviceInterrupt : Course → Type 0
 NoDeviceInterrupt (quiet xs s) = Unit {0}

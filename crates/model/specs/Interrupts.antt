@@ -5,10 +5,12 @@ use Rattle.model.specs.declared.Cause.{Cause}
 use Rattle.model.specs.declared.Cause.TheVariants.{IllegalInstruction, ArithmeticFault, AccessFault, SupervisorCall, DeviceRequest}
 use Rattle.model.specs.declared.Record.{Record}
 use Rattle.model.specs.Stores.{half_at, full_at}
+use Rattle.model.specs.Buses.{Bus}
+use Rattle.model.specs.Requests.{IsLowestRequester}
 use Rattle.model.specs.States.{State}
-use Rattle.model.specs.Status.{arithmetic_on, register_count, slot, counter, to_half}
-use Rattle.model.specs.Effects.{went, stopped}
-use Rattle.model.specs.Steps.{Ending, finished, waiting, took, requested, ended}
+use Rattle.model.specs.Status.{polls, arithmetic_on, register_count, slot, counter, to_half}
+use Rattle.model.specs.Effects.{went, stopped, Prog}
+use Rattle.model.specs.Steps.{Ending, finished, waiting, took, ended, stepped}
 
 -- The registers of set 0 that an interrupt fills, by its cause: 14 and 15, in which it saves the PSW; at a supervisor call 13 too, with
 -- the address; at a device's request 0 to 4 instead.
@@ -81,10 +83,12 @@ Took (finished s) P = ⊥
 Took (waiting s) P = ⊥
 Took (took r t) P = P r t
 
--- What each interrupt does to a machine with all its registers, in which the instruction stood at own: an illegal one and one whose access
--- is refused save its own address, the others the next.
+-- What each interrupt does to a machine with all its registers. If requests are taken, a step takes that of the lowest device that
+-- requests. Of an instruction that stood at own, an illegal one and one whose access is refused save its own address, the others the next.
 pub record InterruptsInWords : Type 0 where
-  pub device : (n : ℕ) (s : State) → length s.registers ≡ register_count → Took (requested n s) (ByDevice n s)
+  pub device :
+      (meaning : ℕ → Prog) (reply : Bus) (n : ℕ) (s : State) → length s.registers ≡ register_count → polls s.status ≡ true →
+      IsLowestRequester s.bus n → Took (stepped meaning reply s) (ByDevice n s)
   pub supervisor_call :
       (own n a : ℕ) (s : State) → length s.registers ≡ register_count → Took (ended own (stopped (Supervisor n a) s)) (BySupervisor n a s)
   pub illegal :
