@@ -1,9 +1,12 @@
 ghost use Rattle.std.specs.Prelude.{◌≡◌, ◌≤◌, true};
 ghost use Rattle.bus.specs.Devices.{Quiet, Reads, Writes, Commands};
+ghost use Rattle.bus.specs.Usages.{usage_in};
 ghost use Rattle.model.specs.Buses.{Bus as Meaning, lowest};
 
-/// The devices of a machine. The meaning of a bus is that of each device, 1 to 255. An implementation shows whether a device answers, its
-/// status, its offer and whether it requests; the latest bytes and the counts stand in the meaning alone. Questions change nothing.
+use crate::usage::Usage;
+
+/// The devices of a machine. The meaning of a bus is that of each device, 1 to 255; an implementation shows exactly this: whether a device
+/// answers, its status, its offer, whether it requests, and how it was used. Questions change nothing.
 /// Only a device that answers is read, written or commanded.
 pub trait Bus {
     ghost devices: { Self → Meaning };
@@ -23,6 +26,10 @@ pub trait Bus {
     /// Whether a device requests an interrupt.
     fn requests(&self, device: u8) -> bool
         ensures { result ≡ (devices self.now device).requests };
+
+    /// How a device was used: its latest data and command, and its counts.
+    fn usage(&self, device: u8) -> Usage
+        ensures { result ≡ usage_in (devices self.now device) };
 
     /// The lowest device that requests an interrupt, or none.
     fn requesting(&self) -> Option<u8>

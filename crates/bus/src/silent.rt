@@ -2,6 +2,7 @@ ghost use Rattle.std.specs.Prelude.{◌≡◌};
 ghost use Rattle.bus.specs.Devices.{silent};
 
 use crate::meaning::Bus;
+use crate::usage::Usage;
 
 /// A bus on which no device answers.
 #[derive(Drop)]
@@ -24,6 +25,10 @@ impl Bus for SilentBus {
 
     fn requests(&self, _device: u8) -> bool {
         false
+    }
+
+    fn usage(&self, _device: u8) -> Usage {
+        Usage::new()
     }
 
     fn requesting(&self) -> Option<u8> {

@@ -1,25 +1,10 @@
 -- What each kind of bus means, by what it is made of.
 use Rattle.std.specs.Prelude.{ℕ, ◌+◌, ◌-◌, ◌*◌, ◌/◌, Bool, true, false, cond, List, [], ◌∷◌, get_or, Some, None, Option, ◌==◌, nat_le, nat_lt, slice_index_or, slice_set}
-use Rattle.model.specs.Buses.{Device, Bus, counted}
+use Rattle.model.specs.Buses.{Device, Bus}
 use Rattle.bus.specs.Devices.{nobody}
-use Rattle.buses.specs.declared.usage.Usage.{Usage}
+use Rattle.bus.specs.declared.usage.Usage.{Usage}
+use Rattle.bus.specs.Usages.{unused, once_read, once_written, once_commanded}
 use Rattle.buses.specs.declared.drives.Drive.{Drive}
-
--- A device that was not used yet.
-abbrev pub unused : Usage
-unused = record { latest = 0; command = 0; reads = 0; writes = 0; commands = 0 }
-
--- One more read.
-abbrev pub once_read : Usage → Usage
-once_read u = record { latest = u.latest; command = u.command; reads = counted u.reads; writes = u.writes; commands = u.commands }
-
--- One more write, of the byte v.
-abbrev pub once_written : ℕ → Usage → Usage
-once_written v u = record { latest = v; command = u.command; reads = u.reads; writes = counted u.writes; commands = u.commands }
-
--- One more command, the byte v.
-abbrev pub once_commanded : ℕ → Usage → Usage
-once_commanded v u = record { latest = u.latest; command = v; reads = u.reads; writes = u.writes; commands = counted u.commands }
 
 -- A device that answers, with its status, the byte that it offers, whether it requests, and its use.
 abbrev pub present : ℕ → ℕ → Bool → Usage → Device

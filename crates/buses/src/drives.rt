@@ -1,10 +1,10 @@
 ghost use Rattle.std.specs.Prelude.{◌≡◌, ◌-◌, ◌/◌, true, replicate};
 ghost use Rattle.std.specs.Bool.{then_some};
-ghost use Rattle.buses.specs.Devices.{new_drive, drive_read, drive_written, drive_commanded, is_drive, drive_bus, position_of, usage_of, drive_changed};
+ghost use Rattle.buses.specs.Devices.{new_drive, drive_read, drive_written, drive_commanded, is_drive, drive_bus, position_of, drive_changed};
 ghost use Rattle.bus.specs.Devices.{Reads, Writes, Commands};
 
-use crate::usage::Usage;
 use bus::meaning::Bus;
+use bus::usage::Usage;
 
 /// The device number of the first drive, and the number of drives.
 const FIRST: u8 = 16;
@@ -91,13 +91,6 @@ impl Drives {
     {
         place(device).map(|at| self.drives[at].position)
     }
-
-    /// How a drive was used, if the device is one.
-    pub fn usage(&self, device: u8) -> Option<Usage>
-        ensures { result ≡ usage_of self.now.drives device }
-    {
-        place(device).map(|at| self.drives[at].usage)
-    }
 }
 
 impl Bus for Drives {
@@ -117,6 +110,10 @@ impl Bus for Drives {
 
     fn requests(&self, _device: u8) -> bool {
         false
+    }
+
+    fn usage(&self, device: u8) -> Usage {
+        place(device).map_or(Usage::new(), |at| self.drives[at].usage)
     }
 
     fn requesting(&self) -> Option<u8> {

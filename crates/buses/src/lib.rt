@@ -3,4 +3,3 @@
 
 pub mod drives;
 pub mod teletype;
-pub mod usage;

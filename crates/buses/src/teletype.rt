@@ -1,10 +1,11 @@
 ghost use Rattle.std.specs.Prelude.{◌≡◌, true, length};
 ghost use Rattle.queue.specs.Rows.{queued, SameSlots};
 ghost use Rattle.bus.specs.Devices.{Reads, Writes, Commands};
-ghost use Rattle.buses.specs.Devices.{unused, once_read, oldest, rest, teletype};
+ghost use Rattle.bus.specs.Usages.{unused, once_read};
+ghost use Rattle.buses.specs.Devices.{oldest, rest, teletype};
 
-use crate::usage::Usage;
 use bus::meaning::Bus;
+use bus::usage::Usage;
 use queue::Queue;
 
 /// The device number of the teletype.
@@ -23,8 +24,7 @@ pub struct Teletype<'a> {
 impl<'a> Teletype<'a> {
     /// A teletype for which the bytes wait.
     pub fn new(bytes: Queue<'a, u8>) -> Teletype<'a>
-        ensures waits { queued result.waiting ≡ queued bytes.entry }
-        ensures lent { result.waiting.slots.ghost_name ≡ bytes.entry.slots.ghost_name }
+        ensures holds { result.waiting ≡ bytes.entry }
         ensures fresh { result.usage ≡ unused }
     {
         Teletype {
@@ -35,17 +35,9 @@ impl<'a> Teletype<'a> {
 
     /// The queue as it is now.
     pub fn into_queue(self) -> Queue<'a, u8>
-        ensures waits { queued result ≡ queued self.entry.waiting }
-        ensures lent { result.slots.ghost_name ≡ self.entry.waiting.slots.ghost_name }
+        ensures { result ≡ self.entry.waiting }
     {
         self.waiting
-    }
-
-    /// How the teletype was used.
-    pub fn usage(&self) -> Usage
-        ensures { result ≡ self.now.usage }
-    {
-        self.usage
     }
 
     /// How many bytes wait.
@@ -60,6 +52,7 @@ impl<'a> Teletype<'a> {
         ensures value { result ≡ oldest (queued self.old.waiting) }
         ensures taken { queued self.new.waiting ≡ rest (queued self.old.waiting) }
         ensures same { SameSlots self.old.waiting self.new.waiting }
+        ensures slots { self.new.waiting.slots.now ≡ self.old.waiting.slots.now }
         ensures counted { self.new.usage ≡ once_read self.old.usage }
     {
         self.usage.read();
@@ -93,6 +86,14 @@ impl Bus for Teletype<'_> {
         device == NUMBER && !self.waiting.is_empty() && self.usage.command / 64 == 1
     }
 
+    fn usage(&self, device: u8) -> Usage {
+        if device == NUMBER {
+            self.usage
+        } else {
+            Usage::new()
+        }
+    }
+
     fn requesting(&self) -> Option<u8> {
         self.requests(NUMBER).then_some(NUMBER)
     }
@@ -104,6 +105,7 @@ impl Bus for Teletype<'_> {
         ensures counted { Reads device (teletype (queued self.old.waiting) self.old.usage) (teletype (queued self.new.waiting) self.new.usage) }
         ensures taken { queued self.new.waiting ≡ rest (queued self.old.waiting) }
         ensures same { SameSlots self.old.waiting self.new.waiting }
+        ensures slots { self.new.waiting.slots.now ≡ self.old.waiting.slots.now }
     {
         self.take()
     }

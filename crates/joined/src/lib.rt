@@ -6,6 +6,7 @@ ghost use Rattle.joined.specs.Parts.{joined, lower_of};
 ghost use Rattle.bus.specs.Devices.{Reads, Writes, Commands};
 
 use bus::meaning::Bus;
+use bus::usage::Usage;
 
 // `new` and `into_parts` are as in BankPair: the parts are buses here and stores there, and no other method is shared.
 /// Two buses as one: a device that answers on the first is the first's in everything, any other is the second's.
@@ -90,18 +91,28 @@ impl<A: Bus, B: Bus> Bus for JoinedBus<A, B> {
         }
     }
 
+    fn usage(&self, device: u8) -> Usage {
+        if self.first.answers(device) {
+            self.first.usage(device)
+        } else {
+            self.second.usage(device)
+        }
+    }
+
     fn requesting(&self) -> Option<u8> {
         let start = lower(self.first.requesting(), self.second.requesting())?;
         self.requesting_from(start)
     }
 
-    /// The bus that does not have the device stays as it is.
+    /// The bus that does not have the device stays as it is, and so do the other devices of the bus that has it.
     fn read(&mut self, device: u8) -> u8
         requires { (⟦<JoinedBus<A, B> as Bus>⟧.devices self.old device).answers ≡ true }
         ensures value { result ≡ (⟦<JoinedBus<A, B> as Bus>⟧.devices self.old device).offer }
         ensures counted { Reads device (⟦<JoinedBus<A, B> as Bus>⟧.devices self.old) (⟦<JoinedBus<A, B> as Bus>⟧.devices self.new) }
         ensures before { (A.Bus.devices self.old.first device).answers ≡ false → self.new.first ≡ self.old.first }
         ensures after { (A.Bus.devices self.old.first device).answers ≡ true → self.new.second ≡ self.old.second }
+        ensures first { (A.Bus.devices self.old.first device).answers ≡ true → Reads device (A.Bus.devices self.old.first) (A.Bus.devices self.new.first) }
+        ensures second { (A.Bus.devices self.old.first device).answers ≡ false → Reads device (B.Bus.devices self.old.second) (B.Bus.devices self.new.second) }
     {
         if self.first.answers(device) {
             self.first.read(device)
@@ -110,12 +121,14 @@ impl<A: Bus, B: Bus> Bus for JoinedBus<A, B> {
         }
     }
 
-    /// The bus that does not have the device stays as it is.
+    /// The bus that does not have the device stays as it is, and so do the other devices of the bus that has it.
     fn write(&mut self, device: u8, byte: u8)
         requires { (⟦<JoinedBus<A, B> as Bus>⟧.devices self.old device).answers ≡ true }
         ensures counted { Writes device byte (⟦<JoinedBus<A, B> as Bus>⟧.devices self.old) (⟦<JoinedBus<A, B> as Bus>⟧.devices self.new) }
         ensures before { (A.Bus.devices self.old.first device).answers ≡ false → self.new.first ≡ self.old.first }
         ensures after { (A.Bus.devices self.old.first device).answers ≡ true → self.new.second ≡ self.old.second }
+        ensures first { (A.Bus.devices self.old.first device).answers ≡ true → Writes device byte (A.Bus.devices self.old.first) (A.Bus.devices self.new.first) }
+        ensures second { (A.Bus.devices self.old.first device).answers ≡ false → Writes device byte (B.Bus.devices self.old.second) (B.Bus.devices self.new.second) }
     {
         if self.first.answers(device) {
             self.first.write(device, byte);
@@ -124,12 +137,14 @@ impl<A: Bus, B: Bus> Bus for JoinedBus<A, B> {
         }
     }
 
-    /// The bus that does not have the device stays as it is.
+    /// The bus that does not have the device stays as it is, and so do the other devices of the bus that has it.
     fn command(&mut self, device: u8, byte: u8)
         requires { (⟦<JoinedBus<A, B> as Bus>⟧.devices self.old device).answers ≡ true }
         ensures counted { Commands device byte (⟦<JoinedBus<A, B> as Bus>⟧.devices self.old) (⟦<JoinedBus<A, B> as Bus>⟧.devices self.new) }
         ensures before { (A.Bus.devices self.old.first device).answers ≡ false → self.new.first ≡ self.old.first }
         ensures after { (A.Bus.devices self.old.first device).answers ≡ true → self.new.second ≡ self.old.second }
+        ensures first { (A.Bus.devices self.old.first device).answers ≡ true → Commands device byte (A.Bus.devices self.old.first) (A.Bus.devices self.new.first) }
+        ensures second { (A.Bus.devices self.old.first device).answers ≡ false → Commands device byte (B.Bus.devices self.old.second) (B.Bus.devices self.new.second) }
     {
         if self.first.answers(device) {
             self.first.command(device, byte);

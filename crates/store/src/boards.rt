@@ -1,7 +1,6 @@
-ghost use Rattle.std.specs.Prelude.{◌≡◌, min, nat_lt};
-ghost use Rattle.store.specs.Boards.{board_places, core_boards, boards_after};
-ghost use Rattle.store.specs.Loans.{none, loan};
-ghost use Rattle.model.specs.Stores.{stored};
+ghost use Rattle.std.specs.Prelude.{◌≡◌, ◌≤◌, length, min, take, nat_lt};
+ghost use Rattle.store.specs.Boards.{core_boards, boards_after};
+ghost use Rattle.model.specs.Stores.{stored, store_limit};
 
 use crate::meaning::Store;
 use model::Kind;
@@ -9,44 +8,45 @@ use model::Kind;
 /// A store has at most this many places.
 pub const LIMIT: usize = 524_288;
 
-/// Core boards over lent halfwords.
+/// Core boards over lent halfwords, no more than a store has places.
 #[derive(Drop)]
 pub struct CoreBoards<'a> {
     words: &'a mut [u16],
+    ghost within: { length words.now ≤ store_limit },
 }
 
 impl<'a> CoreBoards<'a> {
-    /// Boards over the halfwords, of which those within the limit are used.
+    /// Boards over the first 524,288 of the halfwords, or over all where they are fewer. Those past the limit are not lent on.
     pub fn new(words: &'a mut [u16]) -> CoreBoards<'a>
-        ensures holds { result.words.now ≡ words.old }
-        ensures lent { result.words.ghost_name ≡ words.entry.ghost_name }
+        ensures { result.words.now ≡ take store_limit words.old }
     {
-        CoreBoards { words }
+        let count = words.len().min(LIMIT);
+        CoreBoards {
+            words: &mut words[..count],
+        }
     }
 
-    /// The halfwords as they are now.
+    /// The halfwords as they are now, at most 524,288.
     pub fn into_words(self) -> &'a mut [u16]
         ensures holds { result.now ≡ self.entry.words.now }
-        ensures lent { result.ghost_name ≡ self.entry.words.ghost_name }
+        ensures within { length result.now ≤ store_limit }
     {
         self.words
     }
 
-    /// Whether a place is fitted. By two comparisons: where the compiler knows that a place is below the limit, one is left.
+    /// Whether a place is fitted.
     fn holds(&self, place: usize) -> bool
-        ensures { result ≡ nat_lt place (board_places self.now.words.now) }
+        ensures { result ≡ nat_lt place (length self.now.words.now) }
     {
-        place < LIMIT && place < self.words.len()
+        place < self.words.len()
     }
 }
 
 impl Store for CoreBoards<'_> {
     ghost meaning = { λ s. core_boards s.words.now };
 
-    ghost loans = { λ s. loan s.words.ghost_name none };
-
     fn fitted(&self) -> usize {
-        self.words.len().min(LIMIT)
+        self.words.len()
     }
 
     fn kind(&self, place: usize) -> Kind {
@@ -65,10 +65,8 @@ impl Store for CoreBoards<'_> {
         }
     }
 
-    /// Words past the limit stay.
     fn write(&mut self, place: usize, word: u16)
         ensures written { core_boards self.new.words.now ≡ stored (core_boards self.old.words.now) place word }
-        ensures lent { loan self.new.words.ghost_name none ≡ loan self.old.words.ghost_name none }
         ensures words { self.new.words.now ≡ boards_after self.old.words.now place word }
     {
         if self.holds(place) {

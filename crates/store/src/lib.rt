@@ -2,4 +2,5 @@
 #![tactic(auto)]
 
 pub mod boards;
+pub mod laws;
 pub mod meaning;

@@ -1,15 +1,11 @@
 ghost use Rattle.std.specs.Prelude.{◌≡◌};
 ghost use Rattle.model.specs.Stores.{Store as Meaning, Sound, stored};
-ghost use Rattle.store.specs.Loans.{Loans};
 
 use model::Kind;
 
 /// A store of halfwords. Its meaning is the kind of each place and what reading it gives; an implementation shows exactly this.
 pub trait Store {
     ghost meaning: { Self → Meaning };
-
-    /// The memory that was lent for the store: a write keeps it.
-    ghost loans: { Self → Loans };
 
     /// How many places are fitted: they come first, and are no more than the limit.
     fn fitted(&self) -> usize
@@ -26,6 +22,5 @@ pub trait Store {
 
     /// Replaces the halfword at a place, if it is writable.
     fn write(&mut self, place: usize, word: u16)
-        ensures written { meaning self.new ≡ stored (meaning self.old) place word }
-        ensures lent { loans self.new ≡ loans self.old };
+        ensures { meaning self.new ≡ stored (meaning self.old) place word };
 }

@@ -1,7 +1,6 @@
-ghost use Rattle.std.specs.Prelude.{◌≡◌};
-ghost use Rattle.stores.specs.Layers.{byte_image, image_after};
-ghost use Rattle.store.specs.Loans.{none, loan};
-ghost use Rattle.model.specs.Stores.{stored};
+ghost use Rattle.std.specs.Prelude.{◌≡◌, ◌≤◌, ◌*◌, ◌%◌, length, take};
+ghost use Rattle.stores.specs.Layers.{byte_image, image_after, image_places};
+ghost use Rattle.model.specs.Stores.{stored, store_limit};
 
 use model::Kind;
 use store::boards::LIMIT;
@@ -11,21 +10,27 @@ use store::meaning::Store;
 #[derive(Drop)]
 pub struct ByteImage<'a> {
     bytes: &'a mut [u8],
+    ghost even: { length bytes.now % 2 ≡ 0 },
+    ghost within: { length bytes.now ≤ 2 * store_limit },
 }
 
 impl<'a> ByteImage<'a> {
-    /// An image over the bytes, of which a last odd one and those past the limit are not used.
+    /// An image over the whole halfwords within the limit: the first 1,048,576 bytes, or all but a last odd one where they are fewer.
+    /// The others are not lent on.
     pub fn new(bytes: &'a mut [u8]) -> ByteImage<'a>
-        ensures holds { result.bytes.now ≡ bytes.old }
-        ensures lent { result.bytes.ghost_name ≡ bytes.entry.ghost_name }
+        ensures { result.bytes.now ≡ take (2 * image_places bytes.old) bytes.old }
     {
-        ByteImage { bytes }
+        let places = (bytes.len() / 2).min(LIMIT);
+        ByteImage {
+            bytes: &mut bytes[..2 * places],
+        }
     }
 
-    /// The bytes as they are now.
+    /// The bytes as they are now: an even number, at most 1,048,576.
     pub fn into_bytes(self) -> &'a mut [u8]
         ensures holds { result.now ≡ self.entry.bytes.now }
-        ensures lent { result.ghost_name ≡ self.entry.bytes.ghost_name }
+        ensures even { length result.now % 2 ≡ 0 }
+        ensures within { length result.now ≤ 2 * store_limit }
     {
         self.bytes
     }
@@ -35,10 +40,8 @@ impl<'a> ByteImage<'a> {
 impl Store for ByteImage<'_> {
     ghost meaning = { λ s. byte_image s.bytes.now };
 
-    ghost loans = { λ s. loan s.bytes.ghost_name none };
-
     fn fitted(&self) -> usize {
-        (self.bytes.len() / 2).min(LIMIT)
+        self.bytes.len() / 2
     }
 
     fn kind(&self, place: usize) -> Kind {
@@ -57,10 +60,8 @@ impl Store for ByteImage<'_> {
         }
     }
 
-    /// A last odd byte and those past the limit stay.
     fn write(&mut self, place: usize, word: u16)
         ensures written { byte_image self.new.bytes.now ≡ stored (byte_image self.old.bytes.now) place word }
-        ensures lent { loan self.new.bytes.ghost_name none ≡ loan self.old.bytes.ghost_name none }
         ensures bytes { self.new.bytes.now ≡ image_after self.old.bytes.now place word }
     {
         if place < self.fitted() {

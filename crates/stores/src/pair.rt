@@ -1,6 +1,5 @@
 ghost use Rattle.std.specs.Prelude.{◌≡◌};
 ghost use Rattle.stores.specs.Layers.{behind, first_after, second_after};
-ghost use Rattle.store.specs.Loans.{both};
 ghost use Rattle.model.specs.Stores.{stored};
 
 use model::Kind;
@@ -36,8 +35,6 @@ impl<S, T> BankPair<S, T> {
 impl<S: Store, T: Store> Store for BankPair<S, T> {
     ghost meaning = { λ s. behind (S.Store.meaning s.first) (T.Store.meaning s.second) };
 
-    ghost loans = { λ s. both (S.Store.loans s.first) (T.Store.loans s.second) };
-
     fn fitted(&self) -> usize {
         (self.first.fitted() + self.second.fitted()).min(LIMIT)
     }
@@ -67,7 +64,6 @@ impl<S: Store, T: Store> Store for BankPair<S, T> {
     /// Places of the second past the limit stay.
     fn write(&mut self, place: usize, word: u16)
         ensures written { ⟦<BankPair<S, T> as Store>⟧.meaning self.new ≡ stored (⟦<BankPair<S, T> as Store>⟧.meaning self.old) place word }
-        ensures lent { ⟦<BankPair<S, T> as Store>⟧.loans self.new ≡ ⟦<BankPair<S, T> as Store>⟧.loans self.old }
         ensures before { S.Store.meaning self.new.first ≡ first_after (S.Store.meaning self.old.first) place word }
         ensures after { T.Store.meaning self.new.second ≡ second_after (S.Store.meaning self.old.first) (T.Store.meaning self.old.second) place word }
     {

@@ -50,8 +50,6 @@ impl<S: Store> LoaderStrip<S> {
 impl<S: Store> Store for LoaderStrip<S> {
     ghost meaning = { λ s. stripped (S.Store.meaning s.below) s.strip };
 
-    ghost loans = { λ s. S.Store.loans s.below };
-
     fn fitted(&self) -> usize {
         self.below.fitted()
     }
@@ -73,7 +71,6 @@ impl<S: Store> Store for LoaderStrip<S> {
     /// The strip and what it hides stay.
     fn write(&mut self, place: usize, word: u16)
         ensures written { ⟦<LoaderStrip<S> as Store>⟧.meaning self.new ≡ stored (⟦<LoaderStrip<S> as Store>⟧.meaning self.old) place word }
-        ensures lent { S.Store.loans self.new.below ≡ S.Store.loans self.old.below }
         ensures under { S.Store.meaning self.new.below ≡ under_after (S.Store.meaning self.old.below) place word }
         ensures holds { self.new.strip ≡ self.old.strip }
     {

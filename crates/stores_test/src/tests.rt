@@ -1,4 +1,5 @@
 use bus::meaning::Bus;
+use bus::usage::Usage;
 use buses::drives::Drives;
 use buses::teletype::Teletype;
 use joined::JoinedBus;
@@ -65,6 +66,22 @@ fn banks_to_the_limit(rt: HostRuntime) -> Result<(), Fail> {
 }
 
 #[test]
+fn memory_comes_back(rt: HostRuntime) {
+    let mut low = [5; 40];
+    let mut high = [1, 2, 3, 4, 5];
+    let mut banks = BankPair::new(CoreBoards::new(&mut low), ByteImage::new(&mut high));
+    banks.write(39, 6);
+    banks.write(41, 0x0708);
+    let (boards, image) = banks.into_parts();
+    let words = boards.into_words();
+    let bytes = image.into_bytes();
+    assert_eq!(rt; words.len(), 40);
+    assert_eq!(rt; words.last().copied(), Some(6));
+    assert_eq!(rt; &*bytes, [1, 2, 7, 8].as_slice());
+    assert_eq!(rt; high, [1, 2, 7, 8, 5]);
+}
+
+#[test]
 fn strip_over_few_places(rt: HostRuntime) {
     let mut forty = [3; 40];
     let mut one_more = [3; 41];
@@ -88,6 +105,8 @@ fn joined_buses(rt: HostRuntime) {
     assert_eq!(rt; bus.requesting(), None);
     assert!(rt; bus.answers(2) && bus.answers(16) && bus.answers(23) && !bus.answers(24));
     assert_eq!(rt; bus.offer(2), 65);
+    assert_eq!(rt; bus.usage(2), Usage::new());
+    assert_eq!(rt; bus.usage(23), Usage::new());
 }
 
 #[test]

@@ -1,5 +1,5 @@
 ghost use Rattle.std.specs.Prelude.{◌≡◌};
-ghost use Rattle.buses.specs.Devices.{unused, once_read, once_written, once_commanded};
+ghost use Rattle.bus.specs.Usages.{unused, once_read, once_written, once_commanded};
 
 /// The use of a device: its latest data and command, and how often it was read, written and commanded, modulo 2^32.
 #[derive(Clone, Copy, Debug, PartialEq, Eq)]
