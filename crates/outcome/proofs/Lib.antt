@@ -1,3 +1,5 @@
 mod Banks
 mod Digits
 mod Sixteen
+mod TrialBytes
+mod Lines

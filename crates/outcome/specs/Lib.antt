@@ -4,3 +4,4 @@ pub mod Digests
 pub mod Outcomes
 pub mod Shown
 pub mod Texts
+pub mod Trials

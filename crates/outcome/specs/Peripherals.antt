@@ -22,9 +22,8 @@ all_drives drives = map (λ number. drive_of drives (16 + number)) (range_with_l
 abbrev pub shown_of : List ℕ → Usage → List Drive → Devices
 shown_of bytes usage drives = record { teletype = usage; waiting = length bytes; drives = all_drives drives }
 
--- The bus b is a teletype and drives, and this is shown of them.
-pub record DevicesShown (shown : Devices) (b : Bus) : Type 0 where
-  pub bytes : List ℕ
+-- The bus b is a teletype, for which the bytes wait, and drives, and this is shown of them.
+pub record DevicesShown (shown : Devices) (bytes : List ℕ) (b : Bus) : Type 0 where
   pub usage : Usage
   pub drives : List Drive
   pub bus : b ≡ joined (teletype bytes usage) (drive_bus drives)

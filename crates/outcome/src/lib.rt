@@ -1,4 +1,5 @@
-//! What a tape leaves, as text: numbers in hexadecimal, what devices show, and the line of an outcome.
+//! What a tape leaves, as text: numbers in hexadecimal, what devices show, the line of an outcome, and the trials of the program
+//! outcomes.
 #![tactic(auto)]
 
 pub mod digest;
@@ -7,3 +8,4 @@ pub mod line;
 pub mod peripherals;
 pub mod played;
 pub mod shown;
+pub mod trials;

@@ -1,4 +1,4 @@
-use Rattle.std.proofs.Common.{◌≡◌, ℕ, List, length, ap, ◌∙◌, subst}
+use Rattle.std.proofs.Common.{rules, ◌≡◌, ℕ, List, length, ap, ◌∙◌, subst}
 use Rattle.queue.specs.Rows.{queued}
 use Rattle.model.specs.declared.Record.{Record}
 use Rattle.model.specs.Console.{Desk, made}
@@ -22,12 +22,16 @@ returns c =
     let fresh = made (core_boards c.args.words.now) silent in
     let new : w ≡ fresh = c.make-machine.ensures ∙ ap (λ (l : List ℕ). made (core_boards l) silent) c.new.ensures.holds in
     record {
-      answer = a;
       after = v;
       trace = p;
       plays =
-          subst (λ (l : List Record). Plays instruction (length c.args.slots.now) tape fresh l a v p) c.new-trace.ensures.empty
-          (subst (λ (d : Desk). Plays instruction (length c.args.slots.now) tape d q a v p) new
-          (subst (λ (k : ℕ). Plays instruction k tape w q a v p) c.new-trace.ensures.room c.play.ensures.says));
-      shows = c.line_of.ensures (ap (λ k. number_of k.position) c.play.ensures.key ∙ ap (λ (d : Desk). d.key) new);
+          record {
+            answer = a;
+            plays =
+                subst (λ (l : List Record). Plays instruction (length c.args.slots.now) tape fresh l a v p) c.new-trace.ensures.empty
+                (subst (λ (d : Desk). Plays instruction (length c.args.slots.now) tape d q a v p) new
+                (subst (λ (k : ℕ). Plays instruction k tape w q a v p) c.new-trace.ensures.room c.play.ensures.says));
+            shows = c.line_of-line.ensures.shows (ap (λ k. number_of k.position) c.play.ensures.key ∙ ap (λ (d : Desk). d.key) new);
+          };
+      words_left = record { store = search rules };
     }
