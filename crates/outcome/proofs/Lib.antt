@@ -3,3 +3,4 @@ mod Digits
 mod Sixteen
 mod TrialBytes
 mod Lines
+mod ReadBack

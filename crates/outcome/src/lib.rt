@@ -7,5 +7,6 @@ pub mod hex;
 pub mod line;
 pub mod peripherals;
 pub mod played;
+pub mod read_back;
 pub mod shown;
 pub mod trials;
