@@ -39,7 +39,7 @@ fn play_over<'w, B: Bus>(
     trace: &mut Queue<'_, Record>,
 ) -> (Outcome<'w>, B)
     ensures plays { PlaysOn (B.Bus.devices bus) (capacity trace.old) tape.now words.old (queued trace.old) (left_by result.0 trace.new) (B.Bus.devices result.1) }
-    // SCAFFOLD ensures extended { Extended trace.old trace.new }
+    ensures extended { Extended trace.old trace.new }
     ensures same { SameSlots trace.old trace.new }
 {
     let mut machine = Machine::make(CoreBoards::new(words), bus);
@@ -62,7 +62,7 @@ fn play_over<'w, B: Bus>(
 /// trace stand in the free slots, and the slots behind them hold what they held.
 pub fn play_new<'w>(tape: &[u8], words: &'w mut [u16], trace: &mut Queue<'_, Record>) -> Outcome<'w>
     ensures plays { PlaysTo tape.now words.old trace.old result trace.new }
-    // SCAFFOLD ensures extended { Extended trace.old trace.new }
+    ensures extended { Extended trace.old trace.new }
     ensures same { SameSlots trace.old trace.new }
 {
     let (outcome, _bus) = play_over(SilentBus {}, tape, words, trace);
@@ -78,7 +78,7 @@ pub fn play_devices<'w, 'k>(
     trace: &mut Queue<'_, Record>,
 ) -> DevicesOutcome<'w, 'k>
     ensures plays { PlaysOver tape.now words.old (queued keys.entry) trace.old result trace.new }
-    // SCAFFOLD ensures extended { Extended trace.old trace.new }
+    ensures extended { Extended trace.old trace.new }
     ensures same { SameSlots trace.old trace.new }
 {
     let bus = JoinedBus::new(Teletype::new(keys), Drives::new());

@@ -33,7 +33,7 @@ pub record Played (tape words : List ℕ) (slots : List Record) (line left_words
   pub trace : List Record
   pub plays : PlaysToLine (length slots) tape words line after trace
   pub words_left : AreWordsOf after.core.store left_words
-  -- SCAFFOLD pub slots_left : left_slots ≡ trace ++ drop (length trace) slots
+  pub slots_left : left_slots ≡ trace ++ drop (length trace) slots
 
 -- How much of an input is its tape, and over what it is played: 65,536 bytes, a store of 32,768 halfwords, a trace of 64 records.
 unfoldable pub tape_bytes : ℕ

@@ -1,5 +1,6 @@
 use Rattle.std.proofs.Common.{rules, ◌≡◌, ℕ, List, length, ap, ◌∙◌, subst}
 use Rattle.queue.specs.Rows.{queued}
+use Rattle.queue.proofs.Extensions.{slots_extended}
 use Rattle.model.specs.declared.Record.{Record}
 use Rattle.model.specs.Console.{Desk, made}
 use Rattle.model.specs.Tapes.{Plays}
@@ -34,4 +35,5 @@ returns c =
             shows = c.line_of-line.ensures.shows (ap (λ k. number_of k.position) c.play.ensures.key ∙ ap (λ (d : Desk). d.key) new);
           };
       words_left = record { store = search rules };
+      slots_left = slots_extended c.args.slots.now c.new-trace.result c.play.new.trace c.new-trace.ensures.slots c.new-trace.ensures.first c.play.ensures.extended;
     }
