@@ -9,7 +9,8 @@ use Rattle.model.specs.Tapes.{Plays}
 use Rattle.store.specs.Boards.{core_boards}
 use Rattle.bus.specs.Devices.{silent}
 use Rattle.joined.specs.Parts.{joined}
-use Rattle.buses.specs.Devices.{unused, new_drive, teletype, drive_bus}
+use Rattle.bus.specs.Usages.{unused}
+use Rattle.buses.specs.Devices.{new_drive, teletype, drive_bus}
 use Rattle.instructions.specs.Instructions.{instruction}
 use Rattle.tape.specs.declared.orders.TapeFault.{TapeFault}
 use Rattle.console.specs.Tape.{played_by}

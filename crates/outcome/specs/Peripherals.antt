@@ -5,14 +5,15 @@ use Rattle.std.specs.Option.{unwrap_or}
 use Rattle.model.specs.Buses.{Bus}
 use Rattle.joined.specs.Parts.{joined}
 use Rattle.buses.specs.declared.drives.Drive.{Drive}
-use Rattle.buses.specs.declared.usage.Usage.{Usage}
-use Rattle.buses.specs.Devices.{unused, teletype, drive_bus, usage_of, position_of}
+use Rattle.bus.specs.declared.usage.Usage.{Usage}
+use Rattle.bus.specs.Usages.{usage_in}
+use Rattle.buses.specs.Devices.{teletype, drive_bus, position_of}
 use Rattle.outcome.specs.declared.peripherals.DriveShown.{DriveShown}
 use Rattle.outcome.specs.declared.peripherals.Devices.{Devices}
 
 -- The use and the position of the device n.
 abbrev pub drive_of : List Drive → ℕ → DriveShown
-drive_of drives n = record { usage = unwrap_or (usage_of drives n) unused; position = unwrap_or (position_of drives n) 0 }
+drive_of drives n = record { usage = usage_in (drive_bus drives n); position = unwrap_or (position_of drives n) 0 }
 
 -- The same of the devices 16 to 23.
 abbrev pub all_drives : List Drive → List DriveShown

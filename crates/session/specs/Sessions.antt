@@ -24,7 +24,7 @@ pub record PlaysToLine (cap : ℕ) (tape words line : List ℕ) (after : Desk) (
 -- The words are those of the store m of core boards: each place of it has its word, and no word is past the limit.
 pub record AreWordsOf (m : Store) (words : List ℕ) : Type 0 where
   pub store : core_boards words ≡ m
-  -- SCAFFOLD pub size : length words ≤ store_limit
+  pub size : length words ≤ store_limit
 
 -- A tape that is played so over slots: the line that it leaves, the words of the store after it, and what the slots then hold, which is
 -- the records of the trace, and behind them what they held.
