@@ -1,3 +1,6 @@
 mod Banks
 mod Digits
 mod Sixteen
+mod TrialBytes
+mod Lines
+mod ReadBack

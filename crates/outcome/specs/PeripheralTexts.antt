@@ -3,7 +3,7 @@ use Rattle.std.specs.Prelude.{ℕ, List, ◌∷◌, ◌++◌, [], Result}
 use Rattle.std.specs.List.{flat_map}
 use Rattle.model.specs.declared.Record.{Record}
 use Rattle.tape.specs.declared.orders.TapeFault.{TapeFault}
-use Rattle.buses.specs.declared.usage.Usage.{Usage}
+use Rattle.bus.specs.declared.usage.Usage.{Usage}
 use Rattle.outcome.specs.declared.shown.Shown.{Shown}
 use Rattle.outcome.specs.declared.peripherals.DriveShown.{DriveShown}
 use Rattle.outcome.specs.declared.peripherals.Devices.{Devices}

@@ -5,14 +5,15 @@ use Rattle.std.specs.Option.{unwrap_or}
 use Rattle.model.specs.Buses.{Bus}
 use Rattle.joined.specs.Parts.{joined}
 use Rattle.buses.specs.declared.drives.Drive.{Drive}
-use Rattle.buses.specs.declared.usage.Usage.{Usage}
-use Rattle.buses.specs.Devices.{unused, teletype, drive_bus, usage_of, position_of}
+use Rattle.bus.specs.declared.usage.Usage.{Usage}
+use Rattle.bus.specs.Usages.{usage_in}
+use Rattle.buses.specs.Devices.{teletype, drive_bus, position_of}
 use Rattle.outcome.specs.declared.peripherals.DriveShown.{DriveShown}
 use Rattle.outcome.specs.declared.peripherals.Devices.{Devices}
 
 -- The use and the position of the device n.
 abbrev pub drive_of : List Drive → ℕ → DriveShown
-drive_of drives n = record { usage = unwrap_or (usage_of drives n) unused; position = unwrap_or (position_of drives n) 0 }
+drive_of drives n = record { usage = usage_in (drive_bus drives n); position = unwrap_or (position_of drives n) 0 }
 
 -- The same of the devices 16 to 23.
 abbrev pub all_drives : List Drive → List DriveShown
@@ -22,9 +23,8 @@ all_drives drives = map (λ number. drive_of drives (16 + number)) (range_with_l
 abbrev pub shown_of : List ℕ → Usage → List Drive → Devices
 shown_of bytes usage drives = record { teletype = usage; waiting = length bytes; drives = all_drives drives }
 
--- The bus b is a teletype and drives, and this is shown of them.
-pub record DevicesShown (shown : Devices) (b : Bus) : Type 0 where
-  pub bytes : List ℕ
+-- The bus b is a teletype, for which the bytes wait, and drives, and this is shown of them.
+pub record DevicesShown (shown : Devices) (bytes : List ℕ) (b : Bus) : Type 0 where
   pub usage : Usage
   pub drives : List Drive
   pub bus : b ≡ joined (teletype bytes usage) (drive_bus drives)

@@ -1,4 +1,5 @@
-//! What a tape leaves, as text: numbers in hexadecimal, what devices show, and the line of an outcome.
+//! What a tape leaves, as text: numbers in hexadecimal, what devices show, the line of an outcome, and the trials of the program
+//! outcomes.
 #![tactic(auto)]
 
 pub mod digest;
@@ -6,4 +7,6 @@ pub mod hex;
 pub mod line;
 pub mod peripherals;
 pub mod played;
+pub mod read_back;
 pub mod shown;
+pub mod trials;

@@ -5,13 +5,16 @@ ghost use Rattle.outcome.specs.PeripheralTexts.{usage_text, drive_text, drives_t
 ghost use Rattle.outcome.specs.Texts.{Adds};
 
 use crate::hex::add_hex;
+use bus::meaning::Bus;
+use bus::usage::Usage;
 use buses::drives::Drives;
 use buses::teletype::Teletype;
-use buses::usage::Usage;
 use joined::JoinedBus;
 use std::alloc::AllocError;
 
-/// The device number of the first drive.
+/// The device number of the teletype, and that of the first drive.
+const TELETYPE: u8 = 2;
+
 const FIRST: u8 = 16;
 
 /// The use of a drive, and its position.
@@ -34,7 +37,7 @@ fn drive_of(drives: &Drives, device: u8) -> DriveShown
     ensures { result ≡ drive_of drives.now.drives device }
 {
     DriveShown {
-        usage: drives.usage(device).unwrap_or(Usage::new()),
+        usage: drives.usage(device),
         position: drives.position(device).unwrap_or(0),
     }
 }
@@ -56,7 +59,7 @@ pub fn devices_of(bus: &JoinedBus<Teletype<'_>, Drives>) -> Devices
 {
     let teletype = bus.first();
     Devices {
-        teletype: teletype.usage(),
+        teletype: teletype.usage(TELETYPE),
         waiting: teletype.waiting(),
         drives: all_drives(bus.second()),
     }

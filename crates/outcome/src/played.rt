@@ -1,11 +1,6 @@
 ghost use Rattle.std.specs.Prelude.{◌≡◌};
-ghost use Rattle.queue.specs.Rows.{queued, SameSlots};
-ghost use Rattle.model.specs.Answers.{on};
-ghost use Rattle.console.specs.Keys.{number_of};
-ghost use Rattle.console.specs.Tape.{Plays};
-ghost use Rattle.console.specs.View.{desk_of};
-ghost use Rattle.outcome.specs.Outcomes.{PlaysTo, PlaysOver};
-ghost use Rattle.outcome.specs.Shown.{Shows};
+ghost use Rattle.queue.specs.Rows.{queued, capacity, SameSlots, Extended};
+ghost use Rattle.outcome.specs.Outcomes.{PlaysOn, PlaysTo, PlaysOver, left_by};
 
 use crate::peripherals::{Devices, devices_of};
 use crate::shown::{Shown, shown_by};
@@ -18,55 +13,81 @@ use joined::JoinedBus;
 use model::Record;
 use queue::Queue;
 use store::boards::CoreBoards;
-use store::meaning::Store;
 use tape::orders::TapeFault;
 
-/// How a tape ended, and what the console then shows.
+/// What a tape leaves: how it ended, what the console then shows, and the words of the store.
 #[derive(Drop)]
-pub struct Outcome {
+pub struct Outcome<'w> {
     pub ending: Result<usize, TapeFault>,
     pub shown: Shown,
+    pub words: &'w mut [u16],
 }
 
-/// Plays a tape on a machine whose key is ON, and shows what the console shows afterwards, after a fault too.
-fn play_to<S: Store, B: Bus>(
-    machine: &mut Machine<S, B>,
+/// What a tape leaves over a teletype and drives: what these show, and the queue of the bytes that wait, come with it.
+#[derive(Drop)]
+pub struct DevicesOutcome<'w, 'k> {
+    pub outcome: Outcome<'w>,
+    pub devices: Devices,
+    pub keys: Queue<'k, u8>,
+}
+
+/// Plays a tape on a new machine with core boards of the words and a bus. The bus comes back as the tape leaves it.
+fn play_over<'w, B: Bus>(
+    bus: B,
     tape: &[u8],
+    words: &'w mut [u16],
     trace: &mut Queue<'_, Record>,
-) -> Outcome
-    ensures plays { Plays S.Store.meaning B.Bus.devices tape.now machine.old trace.old result.ending machine.new trace.new }
-    ensures shows { number_of machine.old.key.position ≡ on → Shows result.shown (desk_of S.Store.meaning B.Bus.devices machine.new).core }
+) -> (Outcome<'w>, B)
+    ensures plays { PlaysOn (B.Bus.devices bus) (capacity trace.old) tape.now words.old (queued trace.old) (left_by result.0 trace.new) (B.Bus.devices result.1) }
+    ensures extended { Extended trace.old trace.new }
     ensures same { SameSlots trace.old trace.new }
 {
+    let mut machine = Machine::make(CoreBoards::new(words), bus);
     let ending = machine.play(tape, trace);
-    let shown = shown_by(machine);
-    Outcome { ending, shown }
+    let shown = shown_by(&mut machine);
+    let (boards, bus) = machine.into_parts();
+    let words = boards.into_words();
+    (
+        Outcome {
+            ending,
+            shown,
+            words,
+        },
+        bus,
+    )
 }
 
 /// Plays a tape on a new machine with core boards of the words and a silent bus, and shows what the console shows afterwards, after
-/// a fault too. The words are then as the tape leaves them; this is not promised, since the calls of a machine do not say that its
-/// store still lies over the same memory.
-pub fn play_new(tape: &[u8], words: &mut [u16], trace: &mut Queue<'_, Record>) -> Outcome
+/// a fault too. The words come back as the tape leaves them, without those past the limit of a store; the records that it adds to the
+/// trace stand in the free slots, and the slots behind them hold what they held.
+pub fn play_new<'w>(tape: &[u8], words: &'w mut [u16], trace: &mut Queue<'_, Record>) -> Outcome<'w>
     ensures plays { PlaysTo tape.now words.old trace.old result trace.new }
+    ensures extended { Extended trace.old trace.new }
     ensures same { SameSlots trace.old trace.new }
 {
-    let mut machine = Machine::make(CoreBoards::new(words), SilentBus {});
-    play_to(&mut machine, tape, trace)
+    let (outcome, _bus) = play_over(SilentBus {}, tape, words, trace);
+    outcome
 }
 
-/// The same on a machine with a teletype, for which the keys wait, and the eight drives; what these two show afterwards comes with it.
-pub fn play_devices(
+/// The same on a machine with a teletype, for which the keys wait, and the eight drives; what these two show afterwards comes with it,
+/// and so does the queue, with the bytes that still wait.
+pub fn play_devices<'w, 'k>(
     tape: &[u8],
-    words: &mut [u16],
-    keys: Queue<'_, u8>,
+    words: &'w mut [u16],
+    keys: Queue<'k, u8>,
     trace: &mut Queue<'_, Record>,
-) -> (Outcome, Devices)
-    ensures plays { PlaysOver tape.now words.old (queued keys.entry) trace.old result.0 result.1 trace.new }
+) -> DevicesOutcome<'w, 'k>
+    ensures plays { PlaysOver tape.now words.old (queued keys.entry) trace.old result trace.new }
+    ensures extended { Extended trace.old trace.new }
     ensures same { SameSlots trace.old trace.new }
 {
     let bus = JoinedBus::new(Teletype::new(keys), Drives::new());
-    let mut machine = Machine::make(CoreBoards::new(words), bus);
-    let outcome = play_to(&mut machine, tape, trace);
-    let devices = devices_of(machine.bus());
-    (outcome, devices)
+    let (outcome, bus) = play_over(bus, tape, words, trace);
+    let devices = devices_of(&bus);
+    let (teletype, _drives) = bus.into_parts();
+    DevicesOutcome {
+        outcome,
+        devices,
+        keys: teletype.into_queue(),
+    }
 }

@@ -1,10 +1,11 @@
 //! Plays the tape on standard input over every kind of store, and prints what each answers and holds: the same, whatever the store.
 #![tactic(auto)]
 
-use bus::meaning::Bus;
 use bus::silent::SilentBus;
 use console::machine::Machine;
-use model::{BLANK, Item};
+use model::BLANK;
+use outcome::read_back::words_digest;
+use outcome::shown::shown_by;
 use queue::Queue;
 use std::io::{self, Read};
 use store::boards::CoreBoards;
@@ -13,16 +14,13 @@ use stores::image::ByteImage;
 use stores::pair::BankPair;
 use stores::strip::LoaderStrip;
 
-/// A digest of the words that the console reads back.
-fn digest<S: Store, B: Bus>(machine: &mut Machine<S, B>) -> u32 {
-    (0..0x4000u32).step_by(2).fold(0u32, |sum, place| {
-        let word = machine.examine(place).unwrap_or(0xffff);
-        sum.wrapping_mul(31).wrapping_add(u32::from(word))
-    })
-}
-
 /// Plays a tape over a store, and prints what came of it.
-fn played<S: Store + Drop>(rt: &HostRuntime, name: &str, store: S, tape: &[u8]) -> io::Result<()> {
+fn print_played<S: Store + Drop>(
+    rt: &HostRuntime,
+    name: &str,
+    store: S,
+    tape: &[u8],
+) -> io::Result<()> {
     let mut slots = [BLANK; 8];
     let mut trace = Queue::new(&mut slots);
     let mut machine = Machine::make(store, SilentBus {});
@@ -34,12 +32,13 @@ fn played<S: Store + Drop>(rt: &HostRuntime, name: &str, store: S, tape: &[u8]) 
             fault.place
         )?,
     }
-    let location = machine.show(Item::Location).unwrap_or(0);
-    let status = machine.show(Item::Status).unwrap_or(0);
-    let three = machine.show(Item::General(0, 3)).unwrap_or(0);
+    let shown = shown_by(&mut machine);
     println!(rt;
-        "  {location:05X} {status:08X} register 3 {three:08X} words {:08X}",
-        digest(&mut machine)
+        "  {:05X} {:08X} register 3 {:08X} words {:08X}",
+        shown.location,
+        shown.status,
+        shown.lower[3],
+        words_digest(&mut machine)
     )?;
     for entry in &trace {
         println!(rt;
@@ -58,26 +57,26 @@ fn main(rt: HostRuntime) -> io::Result<()> {
     let mut tape = Vec::new(heap);
     rt.stdin().take(4_096).read_to_end(&mut tape)?;
     let mut words = vec![in heap; 0u16; 8_192]?;
-    played(&rt, "core boards", CoreBoards::new(&mut words), &tape)?;
+    print_played(&rt, "core boards", CoreBoards::new(&mut words), &tape)?;
     let mut bytes = vec![in heap; 0u8; 16_385]?;
-    played(&rt, "byte image", ByteImage::new(&mut bytes), &tape)?;
+    print_played(&rt, "byte image", ByteImage::new(&mut bytes), &tape)?;
     let mut half = vec![in heap; 0u16; 3_000]?;
     let mut rest = vec![in heap; 0u8; 10_384]?;
-    played(
+    print_played(
         &rt,
         "bank pair",
         BankPair::new(CoreBoards::new(&mut half), ByteImage::new(&mut rest)),
         &tape,
     )?;
     let mut under = vec![in heap; 0u16; 8_192]?;
-    played(
+    print_played(
         &rt,
         "strip over core boards",
         LoaderStrip::new(CoreBoards::new(&mut under), [0u16; 24]),
         &tape,
     )?;
     let mut image = vec![in heap; 0u8; 16_384]?;
-    played(
+    print_played(
         &rt,
         "strip over a byte image",
         LoaderStrip::new(ByteImage::new(&mut image), [0u16; 24]),

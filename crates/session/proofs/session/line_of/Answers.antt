@@ -7,8 +7,8 @@ use Rattle.console.specs.View.{desk_of}
 use Rattle.session.proofs.Shows.{shown_on}
 use Rattle.session.proofs.session.line_of.Goals as goal
 
-pub returns : goal.returns
-returns g c = λ key.
+pub returns-clause-shows : goal.returns-clause-shows
+returns-clause-shows g c = λ key.
     let same = c.show.ensures.same in
     let key' : number_of c.show.new.self.key.position ≡ on = ap (λ m. number_of m.key.position) same ∙ key in
     let one = shown_on instruction Location (desk_of g.S.Store.meaning g.B.Bus.devices c.args.machine.now) _ c.show.result c.show.ensures.says key refl in
