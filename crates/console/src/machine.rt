@@ -31,9 +31,11 @@ pub struct Machine<S, B> {
 }
 
 impl<S: Store, B: Bus> Machine<S, B> {
-    /// Makes a machine over a store and a bus, its key ON.
+    /// Makes a machine over a store and a bus, which stay as they are, its key ON.
     pub fn make(store: S, bus: B) -> Machine<S, B>
-        ensures { desk_of S.Store.meaning B.Bus.devices result ≡ made_desk (S.Store.meaning store) (B.Bus.devices bus) }
+        ensures desk { desk_of S.Store.meaning B.Bus.devices result ≡ made_desk (S.Store.meaning store) (B.Bus.devices bus) }
+        ensures store { result.core.store ≡ store }
+        ensures bus { result.core.bus ≡ bus }
     {
         Machine {
             key: Key::new(),
