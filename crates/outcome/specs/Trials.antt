@@ -32,6 +32,7 @@ pub record BeginsWithBytes (input bytes after : List ℕ) : Type 0 where
   pub fits : IsShort bytes
   pub written : input ≡ behind_length bytes ++ after
 
+-- It begins with no such bytes: it is at its end, or cut short.
 abbrev pub HasNoBytes : List ℕ → Type 0
 HasNoBytes input = (bytes after : List ℕ) → ¬ BeginsWithBytes input bytes after
 
@@ -40,6 +41,7 @@ abbrev pub bytes_of : Written → List ℕ
 bytes_of (silent_trial tape) = 83 ∷ behind_length tape
 bytes_of (devices_trial keys tape) = 68 ∷ (behind_length keys ++ behind_length tape)
 
+-- A trial whose lengths 4 bytes hold.
 abbrev pub Fits : Written → Type 0
 Fits (silent_trial tape) = IsShort tape
 Fits (devices_trial keys tape) = IsShort keys × IsShort tape
@@ -49,6 +51,7 @@ pub record BeginsWithTrial (input : List ℕ) (trial : Written) (after : List �
   pub fits : Fits trial
   pub written : input ≡ bytes_of trial ++ after
 
+-- It begins with no whole trial.
 abbrev pub HasNoTrial : List ℕ → Type 0
 HasNoTrial input = (trial : Written) (after : List ℕ) → ¬ BeginsWithTrial input trial after
 
@@ -58,7 +61,7 @@ trial_of (Silent tape) = silent_trial tape.now
 trial_of (OverDevices keys tape) = devices_trial keys.now tape.now
 
 -- ── The line that a trial leaves ──
--- How many keys wait at most.
+-- How many keys wait at most: 64.
 unfoldable pub key_limit : ℕ
 key_limit = 64
 

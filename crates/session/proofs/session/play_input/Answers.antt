@@ -1,4 +1,4 @@
-use Rattle.std.proofs.Common.{rules, ◌≡◌, ℕ, min, length, replicate, List, take, subst, ◌∙◌}
+use Rattle.std.proofs.Common.{◌≡◌, ℕ, replicate, take, subst, ◌∙◌}
 use Rattle.session.specs.Sessions.{PlaysToLine}
 use Rattle.session.proofs.Inputs.{left, bytes_named, halfwords_named, records_named}
 use Rattle.session.proofs.session.play_input.Goals as goal
