@@ -116,8 +116,8 @@ impl<S: Store, B: Bus> Machine<S, B> {
         item_in(&self.core, item)
     }
 
-    /// Makes one step; an interrupt adds a record to the trace. Denied at OFF, and where the trace has no room, and then neither the
-    /// machine nor the trace changes.
+    /// Makes one step; an interrupt adds a record to the trace, and the bus becomes only what reads, writes and commands make of it.
+    /// Denied at OFF, and where the trace has no room, and then neither the machine nor the trace changes.
     #[tactic(auto, using(bus::proofs::Touches::becomes_same))]
     pub fn step(&mut self, trace: &mut Queue<'_, Record>) -> Result<StepAnswer, Denial>
         ensures says { Steps S.Store.meaning B.Bus.devices self.old trace.old (stepped_by result) self.new trace.new }
@@ -131,8 +131,9 @@ impl<S: Store, B: Bus> Machine<S, B> {
         step(&mut self.core, trace)
     }
 
-    /// Steps until one waits, the trace is full or the count is reached. Denied at OFF, for a count of 0 or over 1,000,000, and where the
-    /// trace has no room, and then neither the machine nor the trace changes.
+    /// Steps until one waits, the trace is full or the count is reached; the bus becomes only what reads, writes and commands make of it.
+    /// Denied at OFF, for a count of 0 or over 1,000,000, and where the trace has no room, and then neither the machine nor the trace
+    /// changes.
     #[tactic(auto, using(bus::proofs::Touches::becomes_same))]
     pub fn run(&mut self, count: u32, trace: &mut Queue<'_, Record>) -> Result<RunAnswer, Denial>
         ensures says { Runs S.Store.meaning B.Bus.devices count self.old trace.old (ran_by result) self.new trace.new }
@@ -148,7 +149,8 @@ impl<S: Store, B: Bus> Machine<S, B> {
     }
 
     /// Plays a tape with the key ON; answers the number of commands obeyed. The key is back where it was, however the tape ends, and what
-    /// the commands before a fault did stands. At OFF nothing is played, and neither the machine nor the trace changes.
+    /// the commands before a fault did stands. The bus becomes only what reads, writes and commands make of it. At OFF nothing is played,
+    /// and neither the machine nor the trace changes.
     #[tactic(auto, using(bus::proofs::Touches::becomes_same))]
     pub fn play(&mut self, tape: &[u8], trace: &mut Queue<'_, Record>) -> Result<usize, TapeFault>
         ensures says { Plays S.Store.meaning B.Bus.devices tape.now self.old trace.old result self.new trace.new }
