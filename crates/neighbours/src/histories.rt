@@ -2,7 +2,6 @@ ghost use Rattle.std.specs.Prelude.{◌≡◌, IfOk};
 ghost use Rattle.neighbours.specs.Neighbours.{history};
 
 use comparison::calls::Call;
-use model::Item;
 use std::alloc::{AllocError, Global};
 
 // A position is raised by a speed, as in a table of orbits, multiplied and divided, kept at X'40', and the supervisor is called.
@@ -14,19 +13,13 @@ pub const PROGRAM: [u16; 12] = [
 /// The real address of the program, where relocation brings its address 0.
 pub const PLACE: u32 = 0x1000;
 
-/// The window and the PSW with which the program begins, protected.
-pub const BEGINNING: [Call<'static>; 3] = [
-    Call::Set(Item::Segment(0), 0x0000_1010),
-    Call::Set(Item::Status, 0x0000_05f0),
-    Call::Set(Item::Location, 0),
-];
-
 /// A history: the program deposited, then the calls for its neighbours, then its beginning.
 pub fn history(
     heap: Global,
     neighbours: &[Call<'static>],
+    beginning: &[Call<'static>],
 ) -> Result<Vec<Call<'static>>, AllocError>
-    ensures { IfOk result (λ past. past.items ≡ history PLACE PROGRAM neighbours.now BEGINNING) }
+    ensures { IfOk result (λ past. past.items ≡ history PLACE PROGRAM neighbours.now beginning.now) }
 {
     let mut past = Vec::new(heap);
     let mut address = PLACE;
@@ -35,6 +28,6 @@ pub fn history(
         address += 2;
     }
     past.extend_from_slice(neighbours)?;
-    past.extend_from_slice(&BEGINNING)?;
+    past.extend_from_slice(beginning)?;
     Ok(past)
 }

@@ -3,11 +3,11 @@
 
 pub mod histories;
 pub mod marks;
-pub mod words;
+pub mod wording;
 
 use crate::histories::history;
 use crate::marks::marks_of;
-use crate::words::word;
+use crate::wording::word;
 use bus::silent::SilentBus;
 use buses::teletype::Teletype;
 use comparison::agreement::agreed;
@@ -20,6 +20,13 @@ use std::io;
 use store::boards::CoreBoards;
 use stores::image::ByteImage;
 
+/// The window and the PSW with which the program begins, protected.
+const BEGINNING: [Call<'static>; 3] = [
+    Call::Set(Item::Segment(0), 0x0000_1010),
+    Call::Set(Item::Status, 0x0000_05f0),
+    Call::Set(Item::Location, 0),
+];
+
 fn main(rt: HostRuntime) -> io::Result<()> {
     let heap = rt.alloc();
     let mut words = vec![in heap; 0u16; 8_192]?;
@@ -29,7 +36,7 @@ fn main(rt: HostRuntime) -> io::Result<()> {
     let mut keys = [0u8; 4];
 
     // The neighbours: other words beside the program, other registers of set 0, another interrupt.
-    let past = history(heap, &[Call::Deposit(0x2000, 0x1111)])?;
+    let past = history(heap, &[Call::Deposit(0x2000, 0x1111)], &BEGINNING)?;
     let past2 = history(
         heap,
         &[
@@ -38,6 +45,7 @@ fn main(rt: HostRuntime) -> io::Result<()> {
             Call::Deposit(0x98, 0x0000),
             Call::Step,
         ],
+        &BEGINNING,
     )?;
     let list = [Continued::Step; 9];
     let list2 = [

@@ -7,6 +7,7 @@ use model::Item;
 use store::meaning::Store;
 
 /// What a neighbour leaves beside the program: register 3 of set 0, and the halfwords at real X'2000' and X'2002'.
+#[derive(Clone, Copy)]
 pub struct Marks {
     pub register: u32,
     pub beside: [u16; 2],
