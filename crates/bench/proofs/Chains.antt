@@ -164,7 +164,7 @@ module _ (meaning : ℕ → Prog) where
   next_start d cap room count n why w v q p size is free run =
       let all = made_by d room count n why w v q p run in
       let here : Ran meaning cap count n Counted w.core q v.core p =
-          subst (λ (x : Reason). Ran meaning cap count n x w.core q v.core p) is (subst (λ (k : ℕ). Ran meaning k count n why w.core q v.core p) size all.1) in
+      subst (λ (x : Reason). Ran meaning cap count n x w.core q v.core p) is (subst (λ (k : ℕ). Ran meaning k count n why w.core q v.core p) size all.1) in
       let off : off_denial v ≡ None = ap (λ (k : ℕ). off_denial (record { key = k; core = v.core })) all.0 ∙ (neither (off_denial w) _ free).0 in
       let room_there : room_denial (cap - length p) ≡ None = room_left cap (length p) (not_full here.answer _ _ here.stops) in
       ap (λ (o : Option ℕ). or_else o (room_denial (cap - length p))) off ∙ room_there

@@ -228,8 +228,8 @@ pub gone :
 gone {g} {l} {size} {room} {list} {w} {start} {q} {trace} {last} made_with kept_with is empty asked past followed slots =
     let cap = length g.slots in
     let pasts : PerformsAll cap g.past (made g.store g.bus) [] start trace =
-        subst (λ (z : List Record). PerformsAll cap g.past (made g.store g.bus) z start trace) empty
-        (subst (λ (z : Desk). PerformsAll cap g.past z q start trace) is (subst (λ (k : ℕ). PerformsAll k g.past w q start trace) made_with past)) in
+    subst (λ (z : List Record). PerformsAll cap g.past (made g.store g.bus) z start trace) empty
+    (subst (λ (z : Desk). PerformsAll cap g.past z q start trace) is (subst (λ (k : ℕ). PerformsAll k g.past w q start trace) made_with past)) in
     record {
       start = start;
       trace = trace;

@@ -8,3 +8,5 @@ mod follow;
 mod history;
 mod reserved;
 pub mod sides;
+#[cfg(test)]
+mod tests;

@@ -27,7 +27,7 @@ pub register_shown :
 register_shown w v r key e =
     let i = General 0 3 in
     let free : or_else (or_else (deny_if (eqb w.key 0) 7) (deny_if (eqb w.key 2) 8)) (item_denial i) ≡ None =
-        ap (λ (k : ℕ). or_else (or_else (deny_if (eqb k 0) 7) (deny_if (eqb k 2) 8)) (item_denial i)) key ∙ there in
+    ap (λ (k : ℕ). or_else (or_else (deny_if (eqb k 0) 7) (deny_if (eqb k 2) 8)) (item_denial i)) key ∙ there in
     let did : unless_denied (denial (show_item i) w) w (gives (shown (item_of i w.core)) w) ≡ gives (shown (item_of i w.core)) w =
-        ap (λ (d : Option ℕ). unless_denied d w (gives (shown (item_of i w.core)) w)) free in
+    ap (λ (d : Option ℕ). unless_denied d w (gives (shown (item_of i w.core)) w)) free in
     value (item_of i w.core) r (ap (λ (d : Did). d.answer) (sym did ∙ e)) ∙ ap (λ (k : ℕ). Ok (slice_index w.core.registers (slot k 3))) first_set

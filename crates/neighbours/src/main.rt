@@ -97,9 +97,7 @@ fn main(rt: HostRuntime) -> io::Result<()> {
     ] {
         println!(rt;
             "{store}: beside the program {:04X} {:04X}, register 3 of set 0 {:08X}",
-            marks.beside[0],
-            marks.beside[1],
-            marks.register
+            marks.beside[0], marks.beside[1], marks.register
         )?;
     }
     Ok(())

@@ -76,9 +76,9 @@ returns-in_err-run g c =
     let here : start_denial cap w (queued c.loop-made.trace) ≡ Some (number d) = denied_start instruction cap _ c.min.result _ w _ _ _ i.same.size low high c.in_err-run.ensures.says in
     let first : c.loop-made.made ≡ 0 = first_turn _ (λ later. let e : Some (number d) ≡ None = sym here ∙ i.free later in absurd (cc)) in
     let why : start_denial cap (desk_of g.S.Store.meaning g.B.Bus.devices c.args.machine.now) (queued c.args.trace.now) ≡ Some (number d) =
-        at_start (λ m t. start_denial cap (desk_of g.S.Store.meaning g.B.Bus.devices m) (queued t) ≡ Some (number d)) 0 (λ _. i.before first) (λ later. absurd (omega arith)) here in
+    at_start (λ m t. start_denial cap (desk_of g.S.Store.meaning g.B.Bus.devices m) (queued t) ≡ Some (number d)) 0 (λ _. i.before first) (λ later. absurd (omega arith)) here in
     let refused : NotStarted cap c.args.count (desk_of g.S.Store.meaning g.B.Bus.devices c.args.machine.now) (queued c.args.trace.now) (number d) =
-        record { asked = omega (arith, c.loop-made-test.true); why = why } in
+    record { asked = omega (arith, c.loop-made-test.true); why = why } in
     let machine : c.run.new.self ≡ c.args.machine.now = c.in_err-run.ensures.denied ∙ (i.before first).0 in
     let trace : c.run.new.trace ≡ c.args.trace.now = c.in_err-run.ensures.denied_trace ∙ (i.before first).1 in
     record {

@@ -26,17 +26,17 @@ loop-asking-preserved g c =
     let ys = vec_items before in
     let zs = vec_items now in
     let step : Noted r ys (ends_interrupted ys) zs × (vec_len now ≤ vec_len before + 1) × (vec_capacity now ≡ vec_capacity before) =
-        elim c.match-follow_one.branch [
-          in-None w ↦
-              let same = ap (λ (a : Answered). a.answers) w.answered-is in
-              (noted_none r ys zs w.in-None.is (ap vec_items same), omega (arith, ap vec_len same), ap vec_capacity same)
-        | in-Some w ↦
-              let same = ap (λ (a : Answered). a.answers) w.answered-is in
-              (noted_after r _ ys zs w.in-Some.is (sym w.interrupted.ensures ∙ w.if-interrupted.true) (ap vec_items same), omega (arith, ap vec_len same), ap vec_capacity same)
-        | in-Some-2 w ↦
-              let same = ap (λ (a : Answered). a.answers) w.answered-is in
-              (noted_behind r w.in-Some.field-0 ys zs w.in-Some.is (sym w.interrupted.ensures ∙ w.if-interrupted.false) (ap vec_items same ∙ w.push_reserved.ensures.items), omega (arith, ap vec_len same, w.push_reserved.ensures.len), ap vec_capacity same ∙ w.push_reserved.ensures.capacity)
-        ] in
+    elim c.match-follow_one.branch [
+      | in-None w ↦
+          let same = ap (λ (a : Answered). a.answers) w.answered-is in
+          (noted_none r ys zs w.in-None.is (ap vec_items same), omega (arith, ap vec_len same), ap vec_capacity same)
+      | in-Some w ↦
+          let same = ap (λ (a : Answered). a.answers) w.answered-is in
+          (noted_after r _ ys zs w.in-Some.is (sym w.interrupted.ensures ∙ w.if-interrupted.true) (ap vec_items same), omega (arith, ap vec_len same), ap vec_capacity same)
+      | in-Some-2 w ↦
+          let same = ap (λ (a : Answered). a.answers) w.answered-is in
+          (noted_behind r w.in-Some.field-0 ys zs w.in-Some.is (sym w.interrupted.ensures ∙ w.if-interrupted.false) (ap vec_items same ∙ w.push_reserved.ensures.items), omega (arith, ap vec_len same, w.push_reserved.ensures.len), ap vec_capacity same ∙ w.push_reserved.ensures.capacity)
+    ] in
     let i = c.loop-asking.invariant in
     record {
       followed = search (rules, followed_more, step.0);
