@@ -1,9 +1,9 @@
 -- The loop of the benchmark as a tape, and a run without the limit of the console's.
-use Rattle.std.specs.Prelude.{◌≡◌, ℕ, zero, suc, ◌/◌, ◌%◌, ◌^◌, ◌<◌, ◌⊎◌, List, [], ◌∷◌, ◌++◌}
+use Rattle.std.specs.Prelude.{◌≡◌, ℕ, zero, suc, ◌-◌, ◌/◌, ◌%◌, ◌^◌, ◌<◌, ◌⊎◌, List, [], ◌∷◌, ◌++◌, length, Some, None, Option}
 use Rattle.model.specs.declared.Reason.{Reason}
 use Rattle.model.specs.declared.Record.{Record}
 use Rattle.model.specs.Answers.{Answer}
-use Rattle.model.specs.Console.{Desk, made}
+use Rattle.model.specs.Console.{Desk, made, or_else, off_denial, room_denial}
 use Rattle.model.specs.Runs.{Steps, Ran}
 use Rattle.model.specs.Tapes.{letter_a, letter_d, letter_r, letter_s, letter_p, letter_l, Plays}
 use Rattle.store.specs.Boards.{core_boards}
@@ -45,16 +45,20 @@ pub record Ready (mode : Mode) (words : List ℕ) (cap : ℕ) (q : List Record) 
   pub answer : Answer
   pub plays : Plays instruction cap (tape_of mode) (made (core_boards words) silent) q answer v p
 
--- n steps of a run with a count of any size: all of them, none of which stops it, or those up to the one that does.
-abbrev pub RunsOn : ℕ → ℕ → ℕ → Desk → List Record → Desk → List Record → Type 0
-RunsOn cap count n w q v p =
-    (v.key ≡ w.key)
-    × ((n ≡ count) × Steps instruction cap count w.core q v.core p
-    ⊎ ((why : Reason) × Ran instruction cap count n why w.core q v.core p))
+-- The first denial that applies where steps are asked for: 7 at OFF; 9 without room in a trace of capacity cap.
+abbrev pub start_denial : ℕ → Desk → List Record → Option ℕ
+start_denial cap w q = or_else (off_denial w) (room_denial (cap - length q))
 
--- A run that is denied, after some of its steps or before the first.
-pub record StoppedShort (cap count : ℕ) (w : Desk) (q : List Record) (v : Desk) (p : List Record) : Type 0 where
-  pub steps : ℕ
-  pub short : steps < count
+-- n steps of a run with a count of any size, which no denial keeps from its first step: all of them, none of which stops it, or those
+-- up to the one that does.
+pub record RunsOn (cap count n : ℕ) (w : Desk) (q : List Record) (v : Desk) (p : List Record) : Type 0 where
+  pub starts : 0 < count → start_denial cap w q ≡ None
   pub key : v.key ≡ w.key
-  pub goes : Steps instruction cap steps w.core q v.core p
+  pub goes :
+      (n ≡ count) × Steps instruction cap count w.core q v.core p
+      ⊎ ((why : Reason) × Ran instruction cap count n why w.core q v.core p)
+
+-- A run that is denied by n: some steps are asked for, and n is the first denial that applies.
+pub record NotStarted (cap count : ℕ) (w : Desk) (q : List Record) (n : ℕ) : Type 0 where
+  pub asked : 0 < count
+  pub why : start_denial cap w q ≡ Some n

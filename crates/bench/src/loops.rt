@@ -1,11 +1,12 @@
 //! The loop, a machine that is ready for it, and runs without the console's limit.
 
-ghost use Rattle.std.specs.Prelude.{◌≡◌, MatchResult};
-ghost use Rattle.queue.specs.Rows.{queued, capacity, SameSlots};
+ghost use Rattle.std.specs.Prelude.{◌≡◌, MatchResult, OnErr};
+ghost use Rattle.queue.specs.Rows.{queued, capacity, SameSlots, Extended};
 ghost use Rattle.store.specs.Boards.{core_boards};
 ghost use Rattle.bus.specs.Devices.{silent};
+ghost use Rattle.model.specs.Answers.{number};
 ghost use Rattle.console.specs.View.{desk_of};
-ghost use Rattle.bench.specs.Loops.{tape_of, Ready, RunsOn, StoppedShort};
+ghost use Rattle.bench.specs.Loops.{tape_of, Ready, RunsOn, NotStarted};
 
 use bus::meaning::Bus;
 use bus::silent::SilentBus;
@@ -51,7 +52,8 @@ pub fn tape_of(mode: Mode) -> [u8; 43]
     ]
 }
 
-/// A new machine over the words that is ready for the loop.
+/// Makes a new machine over the words and plays the tape of the mode on it. Words that reach past the program make it ready for the
+/// loop; where they are fewer than 2,054, the tape stops at the first deposit for which there is no place.
 pub fn ready<'a>(
     words: &'a mut [u16],
     mode: Mode,
@@ -59,20 +61,25 @@ pub fn ready<'a>(
 ) -> Machine<CoreBoards<'a>, SilentBus>
     ensures ready { Ready mode words.old (capacity trace.old) (queued trace.old) (desk_of (λ s. core_boards s.words.now) (λ _. silent) result) (queued trace.new) }
     ensures same { SameSlots trace.old trace.new }
+    ensures extended { Extended trace.old trace.new }
 {
     let mut machine = Machine::make(CoreBoards::new(words), SilentBus {});
     let _ = machine.play(&tape_of(mode), trace);
     machine
 }
 
-/// Runs with a count of any size, by runs within the console's limit; answers the steps made.
+/// Runs with a count of any size, by runs within the console's limit; answers the steps made. Where steps are asked for, a key at OFF
+/// and then a full trace deny the first of them, and nothing changes; later ones are never denied.
 pub fn run_on<S: Store, B: Bus>(
     machine: &mut Machine<S, B>,
     count: u32,
     trace: &mut Queue<'_, Record>,
 ) -> Result<u32, Denial>
-    ensures runs { MatchResult result (λ n. RunsOn (capacity trace.old) count n (desk_of S.Store.meaning B.Bus.devices machine.old) (queued trace.old) (desk_of S.Store.meaning B.Bus.devices machine.new) (queued trace.new)) (λ _. StoppedShort (capacity trace.old) count (desk_of S.Store.meaning B.Bus.devices machine.old) (queued trace.old) (desk_of S.Store.meaning B.Bus.devices machine.new) (queued trace.new)) }
+    ensures runs { MatchResult result (λ n. RunsOn (capacity trace.old) count n (desk_of S.Store.meaning B.Bus.devices machine.old) (queued trace.old) (desk_of S.Store.meaning B.Bus.devices machine.new) (queued trace.new)) (λ d. NotStarted (capacity trace.old) count (desk_of S.Store.meaning B.Bus.devices machine.old) (queued trace.old) (number d)) }
+    ensures denied { OnErr result (machine.new ≡ machine.old) }
+    ensures denied_trace { OnErr result (trace.new ≡ trace.old) }
     ensures same { SameSlots trace.old trace.new }
+    ensures extended { Extended trace.old trace.new }
 {
     let mut made = 0;
     while made < count {

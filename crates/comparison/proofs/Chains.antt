@@ -1,5 +1,5 @@
 -- Histories and lists that go on by one call.
-use Rattle.std.proofs.Common.{◌≡◌, ℕ, ◌+◌, ◌-◌, ◌<◌, Bool, true, false, List, [], ◌∷◌, ◌++◌, map, length, get_or, take, Some, None, Ok, Err, Option, Result, sym, refl, ap, ◌∙◌, subst, arith}
+use Rattle.std.proofs.Common.{◌≡◌, ℕ, ◌+◌, ◌-◌, ◌<◌, Bool, true, false, List, [], ◌∷◌, ◌++◌, map, length, get_or, take, drop, Some, None, Ok, Err, Option, Result, sym, refl, ap, ◌∙◌, subst, arith}
 use mathlib.Core.Bool.{false≢true}
 use Rattle.std.proofs.lemmas.List.{take_more, map_push, length_push, get_or_push}
 use Rattle.std.proofs.lemmas.Option.{slice_get_read}
@@ -22,7 +22,7 @@ use Rattle.model.proofs.Whole.{isolation}
 use Rattle.comparison.specs.declared.calls.Call.{Call}
 use Rattle.comparison.specs.declared.calls.Call.TheVariants.{TurnKey, Initialise, Examine, Deposit, Set, Show, Step, Run, Play}
 use Rattle.comparison.specs.declared.calls.Continued.{Continued as Asking}
-use Rattle.comparison.specs.Lists.{Performs, PerformsAll, AskedAs, AllAsked, is_interrupt, tells_interrupt, ends_interrupted, Reports, FollowedOne, with_added, with_all_added, Noted, after_all, Tells, Followed, Gone, Compared}
+use Rattle.comparison.specs.Lists.{Performs, PerformsAll, AskedAs, AllAsked, is_interrupt, tells_interrupt, ends_interrupted, Reports, FollowedOne, with_added, with_all_added, Noted, after_all, Tells, Followed, Given, Left, Gone, Compared}
 
 -- ── Histories ──
 performs_none : (size : ℕ) (w : Desk) (q : List Record) → PerformsAll size [] w q w q
@@ -161,6 +161,22 @@ tells_more (quiet xs s) (interrupted a k) t None ys zs b is h p n = let q = p.2 
 tells_more (quiet xs s) (interrupted a k) t (Some x) ys zs true is h p n = absurd (false≢true (sym h.1 ∙ is))
 tells_more (quiet xs s) (interrupted a k) t (Some x) ys zs false is h p n = (pushed xs ys zs a x p.0 h.0 p.1 p.2 n, ends_with ys zs x p.0 n p.2 ∙ p.3)
 
+-- How one more answer is noted: behind the others, not after an interrupt, and not where there is none.
+pub noted_behind :
+    (r : Option StepAnswer) (x : StepAnswer) (ys zs : List StepAnswer) → r ≡ Some x → ends_interrupted ys ≡ false → zs ≡ ys ++ x ∷ [] →
+    Noted r ys (ends_interrupted ys) zs
+noted_behind r x ys zs is quiet_yet e =
+    subst (λ (o : Option StepAnswer). Noted o ys (ends_interrupted ys) zs) (sym is) (subst (λ (b : Bool). Noted (Some x) ys b zs) (sym quiet_yet) e)
+
+pub noted_after :
+    (r : Option StepAnswer) (x : StepAnswer) (ys zs : List StepAnswer) → r ≡ Some x → ends_interrupted ys ≡ true → zs ≡ ys →
+    Noted r ys (ends_interrupted ys) zs
+noted_after r x ys zs is over e =
+    subst (λ (o : Option StepAnswer). Noted o ys (ends_interrupted ys) zs) (sym is) (subst (λ (b : Bool). Noted (Some x) ys b zs) (sym over) e)
+
+pub noted_none : (r : Option StepAnswer) (ys zs : List StepAnswer) → r ≡ None → zs ≡ ys → Noted r ys (ends_interrupted ys) zs
+noted_none r ys zs is e = subst (λ (o : Option StepAnswer). Noted o ys (ends_interrupted ys) zs) (sym is) e
+
 pub followed_start : (size : ℕ) (asked : List Asking) (w : Desk) (q : List Record) (ys : List StepAnswer) → ys ≡ [] → Followed size (take 0 asked) w q ys w q
 followed_start size asked w q ys e = record { list = []; each = tt; leads = refl; adds = refl; tells = (ap (map stepped) (sym e), ap ends_interrupted e) }
 
@@ -204,11 +220,33 @@ reached_all {m} {b} size [] w v q p h r = subst (Reached instruction m b) (sym h
 reached_all size (c ∷ cs) w v q p h r = reached_all size cs h.0 v h.1 p h.3 (reached_one size c w h.0 q h.1 h.2 r)
 
 -- ── Two machines ──
-pub compared :
-    {m n : Store} {b d : Bus} {size room : ℕ} {past other : List Call} {asked wanted : List Asking} {ys zs : List StepAnswer} →
-    Gone m b size past asked ys → Gone n d room other wanted zs → Compared m n b d size room past other asked wanted ys zs
-compared {m} {n} {b} {d} {size} {room} {past} {other} one two = record {
+pub gone :
+    {g : Given} {l : Left} {size room : ℕ} {list : List Asking} {w start : Desk} {q trace last : List Record} →
+    size ≡ length g.slots → room ≡ length g.slots → w ≡ made g.store g.bus → q ≡ [] → list ≡ g.list →
+    PerformsAll size g.past w q start trace → Followed room list start trace l.answers l.machine last → l.slots ≡ last ++ drop (length last) g.slots →
+    Gone g l
+gone {g} {l} {size} {room} {list} {w} {start} {q} {trace} {last} made_with kept_with is empty asked past followed slots =
+    let cap = length g.slots in
+    let pasts : PerformsAll cap g.past (made g.store g.bus) [] start trace =
+    subst (λ (z : List Record). PerformsAll cap g.past (made g.store g.bus) z start trace) empty
+    (subst (λ (z : Desk). PerformsAll cap g.past z q start trace) is (subst (λ (k : ℕ). PerformsAll k g.past w q start trace) made_with past)) in
+    record {
+      start = start;
+      trace = trace;
+      pasts = pasts;
+      reached = reached_all cap g.past (made g.store g.bus) start [] trace pasts new;
+      last = last;
+      followed =
+          subst (λ (z : List Asking). Followed cap z start trace l.answers l.machine last) asked
+          (subst (λ (k : ℕ). Followed k list start trace l.answers l.machine last) kept_with followed);
+      slots = slots;
+    }
+
+pub compared : {g h : Given} {l r : Left} → Gone g l → Gone h r → Compared g h l r
+compared {g} {h} one other = record {
   one = one;
-  two = two;
-  isolated = λ alike. isolation instruction m n b d one.start two.start (reached_all size past (made m b) one.start [] one.trace one.pasts new) (reached_all room other (made n d) two.start [] two.trace two.pasts new) alike one.followed.list two.followed.list;
+  other = other;
+  isolated = λ alike i j.
+      isolation instruction g.store h.store g.bus h.bus one.start other.start one.reached other.reached alike (take i one.followed.list)
+      (take j other.followed.list);
 }

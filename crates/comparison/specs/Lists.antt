@@ -1,5 +1,5 @@
 -- Histories and lists of calls, as the code performs them. Each is told with the trace: q before, p after, of capacity cap.
-use Rattle.std.specs.Prelude.{◌≡◌, ℕ, Bool, true, false, List, [], ◌∷◌, ◌++◌, map, length, ◌-◌, slice_get, Some, None, Option}
+use Rattle.std.specs.Prelude.{◌≡◌, ℕ, Bool, true, false, List, [], ◌∷◌, ◌++◌, map, length, ◌-◌, take, drop, slice_get, Some, None, Option}
 use Rattle.model.specs.declared.Record.{Record}
 use Rattle.model.specs.declared.StepAnswer.{StepAnswer}
 use Rattle.model.specs.declared.StepAnswer.TheVariants.{Done, Waiting, Interrupted}
@@ -11,8 +11,11 @@ use Rattle.model.specs.Runs.{Runs}
 use Rattle.model.specs.Tapes.{Plays}
 use Rattle.instructions.specs.Instructions.{instruction}
 use Rattle.model.specs.Windows.{LookAlike}
-use Rattle.model.specs.Calls.{Continued, key, examine, deposit, show, step, Event, unseen, answered, interrupted, Course, quiet, broken, did, after, event, course}
+use Rattle.model.specs.Calls.{Reached, Continued, key, examine, deposit, show, step, Event, unseen, answered, interrupted, Course, quiet, broken, did, after, event, course}
 use Rattle.model.specs.Isolation.{Allowed, Isolated}
+use Rattle.console.specs.View.{desk_of}
+use Rattle.comparison.specs.declared.sides.Side.{Side}
+use Rattle.comparison.specs.declared.sides.Finished.{Finished}
 use Rattle.comparison.specs.declared.calls.Call.{Call}
 use Rattle.comparison.specs.declared.calls.Call.TheVariants.{TurnKey, Initialise, Examine, Deposit, Set, Show, Step, Run, Play}
 use Rattle.comparison.specs.declared.calls.Continued.{Continued as Asking}
@@ -115,19 +118,44 @@ pub record Followed (cap : ℕ) (asked : List Asking) (w : Desk) (q : List Recor
   pub tells : Tells (course instruction list w) ys
 
 -- ── Two machines ──
--- A machine is made, with an empty trace of capacity cap, has its history, and then its list, which is answered so.
-pub record Gone (m : Store) (b : Bus) (cap : ℕ) (past : List Call) (asked : List Asking) (ys : List StepAnswer) : Type 0 where
+-- What one machine is made over, its lent slots, its history and its list.
+pub record Given : Type 0 where
+  pub store : Store
+  pub bus : Bus
+  pub slots : List Record
+  pub past : List Call
+  pub list : List Asking
+
+-- What it answered to its list, what it is afterwards, and what its slots hold then.
+pub record Left : Type 0 where
+  pub answers : List StepAnswer
+  pub machine : Desk
+  pub slots : List Record
+
+module _ {S B : Type 0} (meaning : S → Store) (devices : B → Bus) where
+  abbrev pub given : Side S B → List Record → Given
+  given s slots = record { store = meaning s.store; bus = devices s.bus; slots = slots; past = s.past.now; list = s.list.now }
+
+  abbrev pub left : Finished S B → List Record → Left
+  left f slots = record { answers = f.answered.answers.items; machine = desk_of meaning devices f.machine; slots = slots }
+
+-- A machine is made, with an empty trace over its slots, has its history, and then its list, which is answered so. The slots hold the
+-- trace then, the oldest record first, and behind it what they held.
+pub record Gone (g : Given) (l : Left) : Type 0 where
   pub start : Desk
   pub trace : List Record
-  pub pasts : PerformsAll cap past (made m b) [] start trace
-  pub finish : Desk
+  pub pasts : PerformsAll (length g.slots) g.past (made g.store g.bus) [] start trace
+  pub reached : Reached instruction g.store g.bus start
   pub last : List Record
-  pub followed : Followed cap asked start trace ys finish last
+  pub followed : Followed (length g.slots) g.list start trace l.answers l.machine last
+  pub slots : l.slots ≡ last ++ drop (length last) g.slots
 
--- Two machines go so; and the lists are isolated if the two look alike at their start.
-pub record Compared (m n : Store) (b d : Bus) (cap room : ℕ) (past other : List Call) (asked wanted : List Asking) (ys zs : List StepAnswer) : Type 0 where
-  pub one : Gone m b cap past asked ys
-  pub two : Gone n d room other wanted zs
+-- Two machines go so; and any two first parts of the lists, i and j calls of them, are isolated if they are allowed and the two look
+-- alike at their start.
+pub record Compared (g h : Given) (l r : Left) : Type 0 where
+  pub one : Gone g l
+  pub other : Gone h r
   pub isolated :
-      LookAlike one.start.core two.start.core → Allowed instruction one.start one.followed.list → Allowed instruction two.start two.followed.list →
-      Isolated instruction one.start two.start one.followed.list two.followed.list
+      LookAlike one.start.core other.start.core → (i j : ℕ) →
+      Allowed instruction one.start (take i one.followed.list) → Allowed instruction other.start (take j other.followed.list) →
+      Isolated instruction one.start other.start (take i one.followed.list) (take j other.followed.list)

@@ -1,10 +1,11 @@
-ghost use Rattle.std.specs.Prelude.{IfOk, length};
+ghost use Rattle.std.specs.Prelude.{◌≡◌, IfOk, OnErr, length};
 ghost use Rattle.model.specs.Isolation.{Isolation};
-ghost use Rattle.comparison.specs.Lists.{Gone, Compared};
+ghost use Rattle.comparison.specs.Lists.{given, left, Gone, Compared};
 
 use crate::follow::follow;
 use crate::history::perform_all;
-use crate::sides::{Answered, Side};
+use crate::reserved::Reserved;
+use crate::sides::{Finished, Side};
 use bus::meaning::Bus;
 use console::machine::Machine;
 use model::Record;
@@ -12,44 +13,51 @@ use queue::Queue;
 use std::alloc::{AllocError, Global};
 use store::meaning::Store;
 
-/// What two machines answered, each to its list.
+/// Two machines after their lists, each with what it answered.
 #[derive(Drop)]
-pub struct Comparison {
-    pub one: Answered,
-    pub other: Answered,
+pub struct Comparison<S, B, U, D> {
+    pub one: Finished<S, B>,
+    pub other: Finished<U, D>,
 }
 
 // The slots beside each side: the borrow checker covers no call that passes on a struct with a `&mut [T]` that the caller gets back.
-/// Makes a machine and performs its history and then its list.
+/// Makes a machine and performs its history and then its list, for whose answers memory is reserved.
 fn go_through<S: Store + Drop, B: Bus + Drop>(
-    heap: Global,
     side: Side<'_, S, B>,
+    reserved: Reserved<'_>,
     slots: &mut [Record],
-) -> Result<Answered, AllocError>
-    ensures { IfOk result (λ a. Gone (S.Store.meaning side.entry.store) (B.Bus.devices side.entry.bus) (length slots.old) side.entry.past.now side.entry.list.now a.answers.items) }
+) -> Finished<S, B>
+    ensures { reserved.entry.list.now ≡ side.entry.list.now → Gone (given S.Store.meaning B.Bus.devices side.entry slots.old) (left S.Store.meaning B.Bus.devices result slots.new) }
 {
     let mut trace = Queue::new(slots);
     let mut machine = Machine::make(side.store, side.bus);
     perform_all(&mut machine, side.past, &mut trace);
-    follow(&mut machine, side.list, &mut trace, heap)
+    let answered = follow(&mut machine, reserved, &mut trace);
+    Finished { answered, machine }
 }
 
 /// Makes two machines, each over a store and a bus of its own and a trace of its own slots, performs a history on each, and then
-/// a list of calls on each.
-/// Whatever the stores, buses, histories and lists: if the machines look alike to a protected program where the lists begin, and
-/// the lists are allowed, the lists are isolated.
+/// a list of calls on each, and hands both back with what they answered. The slots of each then hold its trace, the oldest record
+/// first, and behind it what they held.
+/// Memory for the answers is reserved first: where there is none, no machine is made and no slot written.
+/// Whatever the stores, buses, histories and lists: if the machines look alike to a protected program where the lists begin, any
+/// first parts of the two lists that are allowed are isolated.
 pub fn compare<S: Store + Drop, B: Bus + Drop, U: Store + Drop, D: Bus + Drop>(
     heap: Global,
     one: Side<'_, S, B>,
     slots: &mut [Record],
     other: Side<'_, U, D>,
     other_slots: &mut [Record],
-) -> Result<Comparison, AllocError>
+) -> Result<Comparison<S, B, U, D>, AllocError>
     ensures law { Isolation }
-    ensures runs { IfOk result (λ p. Compared (S.Store.meaning one.entry.store) (U.Store.meaning other.entry.store) (B.Bus.devices one.entry.bus) (D.Bus.devices other.entry.bus) (length slots.old) (length other_slots.old) one.entry.past.now other.entry.past.now one.entry.list.now other.entry.list.now p.one.answers.items p.other.answers.items) }
+    ensures runs { IfOk result (λ p. Compared (given S.Store.meaning B.Bus.devices one.entry slots.old) (given U.Store.meaning D.Bus.devices other.entry other_slots.old) (left S.Store.meaning B.Bus.devices p.one slots.new) (left U.Store.meaning D.Bus.devices p.other other_slots.new)) }
+    ensures unwritten { OnErr result (slots.new ≡ slots.old) }
+    ensures other_unwritten { OnErr result (other_slots.new ≡ other_slots.old) }
 {
+    let reserved = Reserved::new(heap, one.list)?;
+    let other_reserved = Reserved::new(heap, other.list)?;
     Ok(Comparison {
-        one: go_through(heap, one, slots)?,
-        other: go_through(heap, other, other_slots)?,
+        one: go_through(one, reserved, slots),
+        other: go_through(other, other_reserved, other_slots),
     })
 }

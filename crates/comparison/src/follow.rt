@@ -1,15 +1,14 @@
-ghost use Rattle.std.specs.Prelude.{IfOk};
-ghost use Rattle.queue.specs.Rows.{queued, capacity, SameSlots};
+ghost use Rattle.queue.specs.Rows.{queued, capacity, SameSlots, Extended};
 ghost use Rattle.console.specs.View.{desk_of};
 ghost use Rattle.comparison.specs.Lists.{FollowedOne, Followed};
 
 use crate::calls::Continued;
+use crate::reserved::Reserved;
 use crate::sides::Answered;
 use bus::meaning::Bus;
 use console::machine::Machine;
 use model::{Record, StepAnswer};
 use queue::Queue;
-use std::alloc::{AllocError, Global};
 use store::meaning::Store;
 
 // Arm by arm, not through a Call: the proof of one arm for all but the step did not close.
@@ -21,6 +20,7 @@ fn follow_one<S: Store, B: Bus>(
 ) -> Option<StepAnswer>
     ensures does { FollowedOne (capacity trace.old) asking (desk_of S.Store.meaning B.Bus.devices machine.old) (queued trace.old) result (desk_of S.Store.meaning B.Bus.devices machine.new) (queued trace.new) }
     ensures same { SameSlots trace.old trace.new }
+    ensures extended { Extended trace.old trace.new }
 {
     match asking {
         Continued::TurnKey(position) => {
@@ -43,21 +43,24 @@ fn follow_one<S: Store, B: Bus>(
     }
 }
 
-/// Makes all calls that are asked.
+/// Makes all calls of a list; tells the answers of the accepted steps up to and including the first interrupt.
 pub(crate) fn follow<S: Store, B: Bus>(
     machine: &mut Machine<S, B>,
-    asked: &[Continued],
+    asked: Reserved<'_>,
     trace: &mut Queue<'_, Record>,
-    heap: Global,
-) -> Result<Answered, AllocError>
-    ensures does { IfOk result (λ a. Followed (capacity trace.old) asked.now (desk_of S.Store.meaning B.Bus.devices machine.old) (queued trace.old) a.answers.items (desk_of S.Store.meaning B.Bus.devices machine.new) (queued trace.new)) }
+) -> Answered
+    ensures does { Followed (capacity trace.old) asked.entry.list.now (desk_of S.Store.meaning B.Bus.devices machine.old) (queued trace.old) result.answers.items (desk_of S.Store.meaning B.Bus.devices machine.new) (queued trace.new) }
     ensures same { SameSlots trace.old trace.new }
+    ensures extended { Extended trace.old trace.new }
 {
-    let mut answered = Answered {
-        answers: Vec::with_capacity(heap, asked.len())?,
-    };
-    for asking in asked {
-        answered.note(follow_one(machine, *asking, trace));
+    let Reserved { list, answers } = asked;
+    let mut answered = Answered { answers };
+    for asking in list {
+        match follow_one(machine, *asking, trace) {
+            None => {}
+            Some(_) if answered.interrupted() => {}
+            Some(answer) => answered.answers.push_reserved(answer),
+        }
     }
-    Ok(answered)
+    answered
 }

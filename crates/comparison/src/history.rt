@@ -1,4 +1,4 @@
-ghost use Rattle.queue.specs.Rows.{queued, capacity, SameSlots};
+ghost use Rattle.queue.specs.Rows.{queued, capacity, SameSlots, Extended};
 ghost use Rattle.console.specs.View.{desk_of};
 ghost use Rattle.comparison.specs.Lists.{Performs, PerformsAll};
 
@@ -17,6 +17,7 @@ fn perform<S: Store, B: Bus>(
 )
     ensures does { Performs (capacity trace.old) call.entry (desk_of S.Store.meaning B.Bus.devices machine.old) (queued trace.old) (desk_of S.Store.meaning B.Bus.devices machine.new) (queued trace.new) }
     ensures same { SameSlots trace.old trace.new }
+    ensures extended { Extended trace.old trace.new }
 {
     match call {
         Call::TurnKey(position) => {
@@ -57,6 +58,7 @@ pub(crate) fn perform_all<S: Store, B: Bus>(
 )
     ensures does { PerformsAll (capacity trace.old) calls.now (desk_of S.Store.meaning B.Bus.devices machine.old) (queued trace.old) (desk_of S.Store.meaning B.Bus.devices machine.new) (queued trace.new) }
     ensures same { SameSlots trace.old trace.new }
+    ensures extended { Extended trace.old trace.new }
 {
     for call in calls {
         perform(machine, *call, trace);

@@ -1,5 +1,5 @@
 use Rattle.std.proofs.Common.{◌≤◌, length, take}
-use Rattle.queue.specs.Rows.{queued, capacity, SameSlots}
+use Rattle.queue.specs.Rows.{queued, capacity, SameSlots, Extended}
 use Rattle.console.specs.View.{desk_of}
 use Rattle.comparison.specs.Lists.{PerformsAll}
 use Rattle.comparison.proofs.history.perform_all.Given as goal
@@ -11,4 +11,5 @@ invariant-loop-call g l =
       made : PerformsAll (capacity l.initial.trace) (take l.call-index l.calls) (desk_of g.S.Store.meaning g.B.Bus.devices l.initial.machine) (queued l.initial.trace) (desk_of g.S.Store.meaning g.B.Bus.devices l.machine) (queued l.trace);
       within : l.call-index ≤ length l.calls;
       same : SameSlots l.initial.trace l.trace;
+      extended : Extended l.initial.trace l.trace;
     }

@@ -1,0 +1,12 @@
+use Rattle.std.proofs.Common.{◌∙◌, rules}
+use Rattle.queue.proofs.Extensions.{extended_twice, slots_extended}
+use Rattle.comparison.proofs.Chains.{gone}
+use Rattle.comparison.proofs.compare.go_through.Goals as goal
+
+pub returns : goal.returns
+returns g c = λ same.
+    let queue = c.new-trace.ensures in
+    let past = c.perform_all.ensures in
+    let list = c.follow-answered.ensures in
+    let slots = slots_extended _ _ _ queue.slots queue.first (extended_twice _ _ _ past.extended list.extended) in
+    gone queue.room (past.same.size ∙ queue.room) c.make-machine.ensures queue.empty same past.does list.does (search (rules, slots))
