@@ -9,4 +9,4 @@ returns g c = λ same.
     let past = c.perform_all.ensures in
     let list = c.follow-answered.ensures in
     let slots = slots_extended _ _ _ queue.slots queue.first (extended_twice _ _ _ past.extended list.extended) in
-    gone queue.room (past.same.size ∙ queue.room) c.make-machine.ensures queue.empty same past.does list.does (search (rules, slots))
+    gone queue.room (past.same.size ∙ queue.room) c.make-machine.ensures.desk queue.empty same past.does list.does (search (rules, slots))
