@@ -1,5 +1,5 @@
 -- A tape, command by command.
-use Rattle.std.proofs.Common.{◌≡◌, ℕ, zero, suc, ◌+◌, ◌-◌, ◌<◌, ◌≤◌, Bool, true, false, cond, ltb, List, [], ◌∷◌, length, get_or, take, drop, Some, None, Ok, Err, Option, Result, MatchResult, IsErrAnd, sym, refl, ap, ◌∙◌, subst, add-zero, arith, length-drop, rules}
+use Rattle.std.proofs.Common.{◌≡◌, ℕ, ◌+◌, ◌-◌, ◌<◌, ◌≤◌, true, List, ◌∷◌, length, get_or, take, drop, Some, None, Ok, Err, Option, Result, MatchResult, IsErrAnd, sym, refl, ap, ◌∙◌, subst, arith, length-drop}
 use Rattle.std.proofs.lemmas.List.{drop_more, take_rest, nil_from_length}
 use Rattle.std.proofs.lemmas.Result.{err_from_is_err_and}
 use Rattle.queue.specs.declared.Queue.{Queue}
@@ -11,10 +11,10 @@ use Rattle.model.specs.Buses.{Bus}
 use Rattle.model.specs.Effects.{Prog}
 use Rattle.model.specs.Answers.{number, on, Answer, denied, done, played, faulted, accepted}
 use Rattle.model.specs.Console.{Desk, Act, with_key, call, gives}
-use Rattle.model.specs.Tapes.{Order, Command, unknown, known, command_of, Spelling, end, broken, order, spelled, spell_from, spell, obey, Obeys, Playing, ends, breaks, halts, goes_on, PlaysUnless}
+use Rattle.model.specs.Tapes.{Order, Command, unknown, known, command_of, Spelling, end, spell_from, spell, obey, Obeys, Playing, ends, breaks, halts, goes_on, PlaysUnless}
 use Rattle.tape.specs.declared.orders.Order.{Order as TapeOrder}
 use Rattle.tape.proofs.Spellings.{spell_nothing, spell_whole, spell_broken}
-use Rattle.tape.specs.Commands.{order_of, Holds, Stops, Broken}
+use Rattle.tape.specs.Commands.{order_of, Holds, Broken}
 use Rattle.processor.specs.declared.cpu.Core.{Core}
 use Rattle.instructions.specs.Instructions.{instruction}
 use Rattle.console.specs.View.{done_by}

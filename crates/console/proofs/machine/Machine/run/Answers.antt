@@ -1,6 +1,4 @@
-use Rattle.std.proofs.Common.{refl, ap, rules}
-use Rattle.std.proofs.lemmas.Result.{on_err_weaker}
-use Rattle.queue.specs.Rows.{queued}
+use Rattle.std.proofs.Common.{refl, rules}
 use Rattle.bus.proofs.Touches.{becomes_same}
 use Rattle.queue.proofs.Extensions.{extended_same}
 use Rattle.instructions.specs.Instructions.{instruction}
