@@ -1,13 +1,15 @@
 -- Worked cases of devices: what goes out and comes in, what an absent device gives, and a request that is taken.
-use Rattle.std.specs.Prelude.{◌≡◌, ℕ, true, false, cond, ◌∷◌, ◌++◌, replicate, ◌==◌, nat_lt}
+use Rattle.std.specs.Prelude.{◌≡◌, ℕ, true, cond, ◌∷◌, ◌++◌, replicate, ◌==◌, nat_lt}
 use Rattle.model.specs.declared.Kind.TheVariants.{Writable, Unfitted}
 use Rattle.model.specs.declared.Cause.TheVariants.{IllegalInstruction, AccessFault, DeviceRequest}
 use Rattle.model.specs.Stores.{Store, stored, full_at}
 use Rattle.model.specs.Buses.{Device, Bus, changed}
+use Rattle.model.specs.States.{State}
 use Rattle.model.specs.Status.{counter}
 use Rattle.model.specs.Effects.{went, run}
-use Rattle.model.specs.Steps.{took, ended, stepped}
-use Rattle.decode.specs.declared.operations.MemoryOp.TheVariants.{Rd, Ss, Oc}
+use Rattle.model.specs.Steps.{Ending, took, ended, stepped}
+use Rattle.bus.specs.Devices.{nobody}
+use Rattle.decode.specs.declared.operations.MemoryOp.TheVariants.{Wd, Rd, Ss, Oc}
 use Rattle.instructions.specs.Instructions.{memory_tree, instruction}
 use Rattle.cases.specs.Cases.{machine}
 
@@ -16,25 +18,36 @@ use Rattle.cases.specs.Cases.{machine}
 abbrev pub board : Store
 board = record { fitted = 0x1000; kind = λ p. cond (nat_lt p 0x1000) Writable Unfitted; word = λ p. 0x1235 }
 
--- A device that does not answer; and one that does, as yet not used, with its status and the byte that it offers.
-abbrev pub absent : Device
-absent =
-    record { answers = false; status = 0; offer = 0; requests = false; latest = 0; command = 0; reads = 0; writes = 0; commands = 0 }
-
-abbrev pub answering : ℕ → ℕ → Device
-answering status offer = record absent { answers = true; status = status; offer = offer }
+-- A device that answers, as yet not used, with its status and the byte that it offers.
+abbrev pub idle : ℕ → ℕ → Device
+idle status offer = record nobody { answers = true; status = status; offer = offer }
 
 -- A bus on which device n alone is there.
 abbrev pub alone : ℕ → Device → Bus
-alone n d = λ k. cond (k == n) d absent
+alone n d = λ k. cond (k == n) d nobody
 
 -- Device 5 after it was touched: it may then show another status, offer and request.
-abbrev pub touched : Bus → Device → Device
-touched reply d = record d { status = (reply 5).status; offer = (reply 5).offer; requests = (reply 5).requests }
+abbrev pub after_touch : Bus → Device → Device
+after_touch reply d = record d { status = (reply 5).status; offer = (reply 5).offer; requests = (reply 5).requests }
 
 -- A device that was written 4,294,967,295 times; the next write begins the count anew.
 abbrev pub busy : Device
-busy = record (answering 0x10 7) { latest = 1; command = 2; reads = 3; writes = 0xffff_ffff; commands = 4 }
+busy = record (idle 0x10 7) { latest = 1; command = 2; reads = 3; writes = 0xffff_ffff; commands = 4 }
+
+-- A machine with relocation on and this segmentation register 1; its general register 1 names device 5.
+abbrev pub in_segment : Bus → ℕ → State
+in_segment bus g = record (machine board bus 0x400 0x1000 0 5 0 0 0) { segments = 0 ∷ g ∷ replicate 14 0 }
+
+-- It takes an access interrupt at its first instruction, with this interrupt status, and device 5 is as it was.
+abbrev pub refused_access : ℕ → ℕ → Ending
+refused_access g faults =
+    took (record { cause = AccessFault; status = 0x400; location = 0x1000; faults = faults })
+    (record (in_segment (alone 5 busy) g) {
+      status = 0x1235_1235;
+      location = 0x5_1234;
+      faults = faults;
+      registers = 0 ∷ 5 ∷ replicate 12 0 ++ 0x400 ∷ 0x1000 ∷ replicate 16 0;
+    })
 
 -- ── Out ──
 module _ (store : Store) (reply : Bus) where
@@ -43,9 +56,9 @@ module _ (store : Store) (reply : Bus) where
   abbrev pub DataOut : Type 0
   DataOut =
       (run reply (instruction 0x9a12) (machine store (alone 5 busy) 0xf 0x1000 0 5 0x1a5 0 0)
-      ≡ went 0 (machine store (changed (alone 5 busy) 5 (record (touched reply busy) { latest = 0xa5; writes = 0 })) 0 0x1002 0 5 0x1a5 0 0))
+      ≡ went 0 (machine store (changed (alone 5 busy) 5 (record (after_touch reply busy) { latest = 0xa5; writes = 0 })) 0 0x1002 0 5 0x1a5 0 0))
       × (run reply (instruction 0x9a12) (machine store (alone 5 busy) 0xf 0x1000 0 0x405 0x1a5 0 0)
-      ≡ went 0 (machine store (changed (alone 5 busy) 5 (record (touched reply busy) { latest = 0xa5; writes = 0 })) 0 0x1002 0 0x405 0x1a5 0 0))
+      ≡ went 0 (machine store (changed (alone 5 busy) 5 (record (after_touch reply busy) { latest = 0xa5; writes = 0 })) 0 0x1002 0 0x405 0x1a5 0 0))
 
   -- To the devices 6, 0 and 261, which are absent, nothing moves: the code is 4.
   abbrev pub AbsentOut : Type 0
@@ -61,7 +74,7 @@ module _ (store : Store) (reply : Bus) where
   abbrev pub CommandOut : Type 0
   CommandOut =
       run reply (memory_tree Oc 1 0x1001 0x1004) (machine board (alone 5 busy) 0 0x1000 0 5 0 0 0)
-      ≡ went 0 (machine board (changed (alone 5 busy) 5 (record (touched reply busy) { command = 0x35; commands = 5 })) 0 0x1004 0 5 0 0 0)
+      ≡ went 0 (machine board (changed (alone 5 busy) 5 (record (after_touch reply busy) { command = 0x35; commands = 5 })) 0 0x1004 0 5 0 0 0)
 
   -- Under protection it is illegal, and the interrupt finds every device as it was.
   abbrev pub ForbiddenCommand : Type 0
@@ -71,13 +84,17 @@ module _ (store : Store) (reply : Bus) where
       ≡ took (record { cause = IllegalInstruction; status = 0x100; location = 0x1000; faults = 0 })
       (record (machine store bus (full_at store 0x30) (counter (full_at store 0x34)) 0 5 0 0 0) { registers = 0 ∷ 5 ∷ replicate 12 0 ++ 0x100 ∷ 0x1000 ∷ replicate 16 0 })
 
+  -- WD 1 at X'10000', with P clear in segmentation register 1: the access is refused before the device is written.
+  abbrev pub RefusedOut : Type 0
+  RefusedOut = ended 0x1000 (run reply (memory_tree Wd 1 0x10000 0x1004) (in_segment (alone 5 busy) 0x0ff0_0000)) ≡ refused_access 0x0ff0_0000 8
+
 -- ── In ──
 module _ (store : Store) (reply : Bus) where
   -- RDR 1,2 takes the byte that device 5 offers; of an absent one it takes none.
   abbrev pub DataIn : Type 0
   DataIn =
       (run reply (instruction 0x9b12) (machine store (alone 5 busy) 0 0x1000 0 5 0x1a5 0 0)
-      ≡ went 0 (machine store (changed (alone 5 busy) 5 (record (touched reply busy) { reads = 4 })) 0 0x1002 0 5 7 0 0))
+      ≡ went 0 (machine store (changed (alone 5 busy) 5 (record (after_touch reply busy) { reads = 4 })) 0 0x1002 0 5 7 0 0))
       × (run reply (instruction 0x9b12) (machine store (alone 5 busy) 0 0x1000 0 6 0x1a5 0 0)
       ≡ went 0 (machine store (alone 5 busy) 4 0x1002 0 6 0x1a5 0 0))
 
@@ -92,15 +109,31 @@ module _ (store : Store) (reply : Bus) where
   -- SS 1 stores the status of device 2, a teletype for which no byte waits: X'08', at X'1000'; the code is 8.
   abbrev pub EmptyTeletype : Type 0
   EmptyTeletype =
-      run reply (memory_tree Ss 1 0x1000 0x1004) (machine board (alone 2 (answering 8 0)) 0 0x1000 0 2 0 0 0)
-      ≡ went 0 (machine (stored board 0x800 0x0835) (alone 2 (answering 8 0)) 8 0x1004 0 2 0 0 0)
+      run reply (memory_tree Ss 1 0x1000 0x1004) (machine board (alone 2 (idle 8 0)) 0 0x1000 0 2 0 0 0)
+      ≡ went 0 (machine (stored board 0x800 0x0835) (alone 2 (idle 8 0)) 8 0x1004 0 2 0 0 0)
+
+  -- SS 1 of the absent device 6 stores X'04', its status; the code is 4.
+  abbrev pub AbsentStatus : Type 0
+  AbsentStatus =
+      run reply (memory_tree Ss 1 0x1000 0x1004) (machine board (alone 5 busy) 0 0x1000 0 6 0 0 0)
+      ≡ went 0 (machine (stored board 0x800 0x0435) (alone 5 busy) 4 0x1004 0 6 0 0 0)
+
+  -- RD 1 from it stores nothing.
+  abbrev pub AbsentInput : Type 0
+  AbsentInput =
+      run reply (memory_tree Rd 1 0x1000 0x1004) (machine board (alone 5 busy) 0 0x1000 0 6 0 0 0)
+      ≡ went 0 (machine board (alone 5 busy) 4 0x1004 0 6 0 0 0)
+
+  -- RD 1 at X'10000', with W 01 in segmentation register 1: the access is refused before the device is read.
+  abbrev pub RefusedInput : Type 0
+  RefusedInput = ended 0x1000 (run reply (memory_tree Rd 1 0x10000 0x1004) (in_segment (alone 5 busy) 0x0ff0_0030)) ≡ refused_access 0x0ff0_0030 4
 
   -- RD 1 at X'10000', with W 10 in segmentation register 1: the byte is stored, and then the access interrupt comes.
   abbrev pub ReportedInput : Type 0
   ReportedInput =
-      ended 0x1000 (run reply (memory_tree Rd 1 0x10000 0x1004) (record (machine board (alone 5 busy) 0x400 0x1000 0 5 0 0 0) { segments = 0 ∷ 0x0ff0_0050 ∷ replicate 14 0 }))
+      ended 0x1000 (run reply (memory_tree Rd 1 0x10000 0x1004) (in_segment (alone 5 busy) 0x0ff0_0050))
       ≡ took (record { cause = AccessFault; status = 0x400; location = 0x1004; faults = 2 })
-      (record (machine (stored board 0 0x0735) (changed (alone 5 busy) 5 (record (touched reply busy) { reads = 4 })) 0x1235_1235 0x5_1234 0 5 0 0 0) {
+      (record (machine (stored board 0 0x0735) (changed (alone 5 busy) 5 (record (after_touch reply busy) { reads = 4 })) 0x1235_1235 0x5_1234 0 5 0 0 0) {
         faults = 2;
         pending = true;
         registers = 0 ∷ 5 ∷ replicate 12 0 ++ 0x400 ∷ 0x1004 ∷ replicate 16 0;
@@ -111,7 +144,7 @@ module _ (store : Store) (reply : Bus) where
 -- The devices 3 and 7 request.
 abbrev pub two_requests : Bus
 two_requests =
-    λ n. cond (n == 3) (record (answering 0x20 0) { requests = true }) (cond (n == 7) (record (answering 0x70 0) { requests = true }) absent)
+    λ n. cond (n == 3) (record (idle 0x20 0) { requests = true }) (cond (n == 7) (record (idle 0x70 0) { requests = true }) nobody)
 
 -- In a machine that waits, the lower one is taken: registers 0 to 4 of set 0 get the old status and Location Counter, the number, the
 -- device's status, and the halfword at X'D6', which with its last bit cleared is the new Location Counter.
@@ -130,8 +163,12 @@ DeviceCases =
     × AbsentOut store reply
     × CommandOut store reply
     × ForbiddenCommand store reply
+    × RefusedOut store reply
     × DataIn store reply
     × StatusIn store reply
     × EmptyTeletype store reply
+    × AbsentStatus store reply
+    × AbsentInput store reply
+    × RefusedInput store reply
     × ReportedInput store reply)
     × LowestRequest

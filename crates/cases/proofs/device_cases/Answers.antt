@@ -15,4 +15,4 @@ use Rattle.cases.proofs.device_cases.Goals as goal
 
 pub returns : goal.returns
 unfolding full_at first_from lowest waits polls relocated protected recoded selected slot counter address limit_of relocation_of no_execute_of write_mode_of present_of chosen block within present no_execute write_mode real is_controller is_odd low_byte device_number with_byte byte_at put_byte low upper is_privileged code_field first_field second_field load_byte no_device device_tree status_tree instruction
-returns c = ((λ store reply. ((refl, refl), (refl, refl, refl), refl, λ bus. refl, (refl, refl), (refl, refl), refl, refl)), λ reply. refl)
+returns c = ((λ store reply. ((refl, refl), (refl, refl, refl), refl, λ bus. refl, refl, (refl, refl), (refl, refl), refl, refl, refl, refl, refl)), λ reply. refl)
