@@ -5,6 +5,7 @@ use console::machine::Machine;
 use model::Item;
 use queue::Queue;
 use store::boards::CoreBoards;
+use store::meaning::Store;
 use stores::strip::LoaderStrip;
 
 /// Denials 1 and 2: 2,048 places, of which 40 to 63 are fixed.
@@ -179,7 +180,7 @@ fn taken_apart(rt: HostRuntime) {
     assert_eq!(rt; stepped(m.step(&mut trace)), 2);
     let (store, bus) = m.into_parts();
     assert_eq!(rt; bus.waiting(), 1);
-    assert_eq!(rt; store.into_words()[2], 0x1234);
+    assert_eq!(rt; store.read(2), 0x1234);
     assert_eq!(rt; u8::from(slots[0].cause), 2);
     assert_eq!(rt; slots[1], UNUSED);
     assert_eq!(rt; slots[2], UNUSED);
