@@ -11,6 +11,9 @@ use crate::usage::Usage;
 pub trait Bus {
     ghost devices: { Self → Meaning };
 
+    /// What the first bus may become by one read, write or command.
+    ghost touched: { Self → Self → Type 0 };
+
     /// Whether a device answers.
     fn answers(&self, device: u8) -> bool
         ensures { result ≡ (devices self.now device).answers };
@@ -56,15 +59,18 @@ pub trait Bus {
     fn read(&mut self, device: u8) -> u8
         requires { (devices self.old device).answers ≡ true }
         ensures value { result ≡ (devices self.old device).offer }
-        ensures counted { Reads device (devices self.old) (devices self.new) };
+        ensures counted { Reads device (devices self.old) (devices self.new) }
+        ensures touches { touched self.old self.new };
 
     /// Writes a byte to a device.
     fn write(&mut self, device: u8, byte: u8)
         requires { (devices self.old device).answers ≡ true }
-        ensures { Writes device byte (devices self.old) (devices self.new) };
+        ensures counted { Writes device byte (devices self.old) (devices self.new) }
+        ensures touches { touched self.old self.new };
 
     /// Gives a device a command.
     fn command(&mut self, device: u8, byte: u8)
         requires { (devices self.old device).answers ≡ true }
-        ensures { Commands device byte (devices self.old) (devices self.new) };
+        ensures counted { Commands device byte (devices self.old) (devices self.new) }
+        ensures touches { touched self.old self.new };
 }

@@ -1,6 +1,7 @@
 ghost use Rattle.std.specs.Prelude.{◌≡◌, ◌-◌, ◌/◌, true, replicate};
 ghost use Rattle.std.specs.Bool.{then_some};
 ghost use Rattle.buses.specs.Devices.{new_drive, drive_read, drive_written, drive_commanded, is_drive, drive_bus, position_of, drive_changed};
+ghost use Rattle.buses.specs.Touches.{DrivesTouched};
 ghost use Rattle.bus.specs.Devices.{Reads, Writes, Commands};
 
 use bus::meaning::Bus;
@@ -96,6 +97,8 @@ impl Drives {
 impl Bus for Drives {
     ghost devices = { λ d. drive_bus d.drives };
 
+    ghost touched = { DrivesTouched };
+
     fn answers(&self, device: u8) -> bool {
         place(device).is_some()
     }
@@ -126,6 +129,7 @@ impl Bus for Drives {
         ensures value { result ≡ (drive_bus self.old.drives device).offer }
         ensures counted { Reads device (drive_bus self.old.drives) (drive_bus self.new.drives) }
         ensures drives { self.new.drives ≡ drive_changed drive_read self.old.drives device }
+        ensures touches { DrivesTouched self.old self.new }
     {
         let Some(at) = place(device) else { return 0 };
         self.drives[at].read();
@@ -137,6 +141,7 @@ impl Bus for Drives {
         requires { (drive_bus self.old.drives device).answers ≡ true }
         ensures counted { Writes device byte (drive_bus self.old.drives) (drive_bus self.new.drives) }
         ensures drives { self.new.drives ≡ drive_changed (drive_written byte) self.old.drives device }
+        ensures touches { DrivesTouched self.old self.new }
     {
         if let Some(at) = place(device) {
             self.drives[at].write(byte);
@@ -148,6 +153,7 @@ impl Bus for Drives {
         requires { (drive_bus self.old.drives device).answers ≡ true }
         ensures counted { Commands device byte (drive_bus self.old.drives) (drive_bus self.new.drives) }
         ensures drives { self.new.drives ≡ drive_changed (drive_commanded byte) self.old.drives device }
+        ensures touches { DrivesTouched self.old self.new }
     {
         if let Some(at) = place(device) {
             self.drives[at].command(byte);

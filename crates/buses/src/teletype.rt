@@ -3,6 +3,7 @@ ghost use Rattle.queue.specs.Rows.{queued, SameSlots};
 ghost use Rattle.bus.specs.Devices.{Reads, Writes, Commands};
 ghost use Rattle.bus.specs.Usages.{unused, once_read};
 ghost use Rattle.buses.specs.Devices.{oldest, rest, teletype};
+ghost use Rattle.buses.specs.Touches.{TeletypeTouched, TeletypeRead};
 
 use bus::meaning::Bus;
 use bus::usage::Usage;
@@ -63,6 +64,8 @@ impl<'a> Teletype<'a> {
 impl Bus for Teletype<'_> {
     ghost devices = { λ t. teletype (queued t.waiting) t.usage };
 
+    ghost touched = { TeletypeTouched };
+
     fn answers(&self, device: u8) -> bool {
         device == NUMBER
     }
@@ -106,6 +109,7 @@ impl Bus for Teletype<'_> {
         ensures taken { queued self.new.waiting ≡ rest (queued self.old.waiting) }
         ensures same { SameSlots self.old.waiting self.new.waiting }
         ensures slots { self.new.waiting.slots.now ≡ self.old.waiting.slots.now }
+        ensures touches { TeletypeTouched self.old self.new }
     {
         self.take()
     }
@@ -115,6 +119,7 @@ impl Bus for Teletype<'_> {
         requires { (teletype (queued self.old.waiting) self.old.usage device).answers ≡ true }
         ensures counted { Writes device byte (teletype (queued self.old.waiting) self.old.usage) (teletype (queued self.new.waiting) self.new.usage) }
         ensures waits { self.new.waiting ≡ self.old.waiting }
+        ensures touches { TeletypeTouched self.old self.new }
     {
         self.usage.write(byte);
     }
@@ -124,6 +129,7 @@ impl Bus for Teletype<'_> {
         requires { (teletype (queued self.old.waiting) self.old.usage device).answers ≡ true }
         ensures counted { Commands device byte (teletype (queued self.old.waiting) self.old.usage) (teletype (queued self.new.waiting) self.new.usage) }
         ensures waits { self.new.waiting ≡ self.old.waiting }
+        ensures touches { TeletypeTouched self.old self.new }
     {
         self.usage.command(byte);
     }

@@ -1,3 +1,4 @@
 pub mod Cases
 pub mod Further
 pub mod Alike
+pub mod Devices

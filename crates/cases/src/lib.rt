@@ -3,6 +3,7 @@
 
 ghost use Rattle.cases.specs.Alike.{AlikeMachines};
 ghost use Rattle.cases.specs.Cases.{WorkedCases};
+ghost use Rattle.cases.specs.Devices.{DeviceCases};
 ghost use Rattle.cases.specs.Further.{FurtherCases};
 
 /// The worked cases hold.
@@ -13,6 +14,11 @@ pub fn worked_cases()
 /// Further cases, where an emulator easily goes wrong.
 pub fn further_cases()
     ensures { FurtherCases }
+{}
+
+/// Worked cases of devices hold.
+pub fn device_cases()
+    ensures { DeviceCases }
 {}
 
 /// There are two machines, reached by calls, that look alike to a protected program, and lists as the law of isolation asks for.

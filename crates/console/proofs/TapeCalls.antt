@@ -13,7 +13,7 @@ use Rattle.model.specs.Answers.{number, on, Answer, denied, done, played, faulte
 use Rattle.model.specs.Console.{Desk, Act, with_key, call, gives}
 use Rattle.model.specs.Tapes.{Order, Command, unknown, known, command_of, Spelling, end, broken, order, spelled, spell_from, spell, obey, Obeys, Playing, ends, breaks, halts, goes_on, PlaysUnless}
 use Rattle.tape.specs.declared.orders.Order.{Order as TapeOrder}
-use Rattle.tape.proofs.Spellings.{spell_whole, spell_broken}
+use Rattle.tape.proofs.Spellings.{spell_nothing, spell_whole, spell_broken}
 use Rattle.tape.specs.Commands.{order_of, Holds, Stops, Broken}
 use Rattle.processor.specs.declared.cpu.Core.{Core}
 use Rattle.instructions.specs.Instructions.{instruction}
@@ -83,17 +83,13 @@ gone bytes rest size place h e = omega (arith, ap length e, length-drop size byt
 pub front : (xs : List ℕ) → 1 ≤ length xs → get_or xs 0 0 ∷ take (length xs - 1) (drop 1 xs) ≡ xs
 front xs h = ap (λ (l : List ℕ). get_or xs 0 0 ∷ l) (take_rest xs 1) ∙ sym (drop_more xs 0 0 h)
 
-over : (place a : ℕ) → spell_from [] 0 place a ≡ end
-unfolding spell_from
-over place a = refl
-
 -- A tape from its beginning, by how it goes on from the bytes xs.
 module _ (meaning : ℕ → Prog) (cap : ℕ) (first : Spelling) (start : Desk) (line : List Record) (xs : List ℕ) (place a n : ℕ) (w : Desk) (q : List Record) where
   pub to_the_end :
       ((x : Answer) (v : Desk) (p : List Record) → Playing meaning cap (spell_from xs 0 place a) n w q x v p → Playing meaning cap first 0 start line x v p) →
       length xs < 1 → Playing meaning cap first 0 start line (played n) w q
   to_the_end from h =
-      let e : spell_from xs 0 place a ≡ end = ap (λ (l : List ℕ). spell_from l 0 place a) (nil_from_length xs (omega arith)) ∙ over place a in
+      let e : spell_from xs 0 place a ≡ end = ap (λ (l : List ℕ). spell_from l 0 place a) (nil_from_length xs (omega arith)) ∙ spell_nothing place a in
       from (played n) w q (subst (λ (s : Spelling). Playing meaning cap s n w q (played n) w q) (sym e) ends)
 
   pub to_a_stop :

@@ -50,7 +50,7 @@ impl<S: Store, B: Bus> Machine<S, B> {
     }
 
     // u8, not Position: any number may be given, and one that is no position is denied.
-    /// Turns the key: 0 OFF, 1 ON, 2 LOCK. Another number is denied. The processor, its store and its bus stay.
+    /// Turns the key: 0 OFF, 1 ON, 2 LOCK; the processor, its store and its bus stay. Another number is denied, and then the key stays.
     pub fn turn_key(&mut self, position: u8) -> Result<(), Denial>
         ensures says { Says S.Store.meaning B.Bus.devices (turn_key position) self.old (done_by result) self.new }
         ensures denied { OnErr result (self.new ≡ self.old) }
@@ -60,7 +60,7 @@ impl<S: Store, B: Bus> Machine<S, B> {
         Ok(())
     }
 
-    /// Puts the processor at its start again.
+    /// Puts the processor at its start again; the store and the bus stay. Denied at OFF, and then nothing changes.
     pub fn initialise(&mut self) -> Result<(), Denial>
         ensures says { Says S.Store.meaning B.Bus.devices initialise self.old (done_by result) self.new }
         ensures denied { OnErr result (self.new ≡ self.old) }
@@ -71,7 +71,8 @@ impl<S: Store, B: Bus> Machine<S, B> {
         Ok(())
     }
 
-    /// The halfword at a real address, in the store.
+    /// The halfword at a real address, in the store; nothing changes. Denied at OFF and LOCK, and where the address is odd, over
+    /// X'FFFFF' or of an unfitted place.
     pub fn examine(&mut self, address: u32) -> Result<u16, Denial>
         ensures says { Says S.Store.meaning B.Bus.devices (examine address) self.old (shown_by result) self.new }
         ensures same { self.new ≡ self.old }
@@ -81,7 +82,8 @@ impl<S: Store, B: Bus> Machine<S, B> {
         Ok(self.core.word(place))
     }
 
-    /// Writes a halfword at a real address, in the store.
+    /// Writes a halfword at a real address, in the store; the bus stays. Denied where examine is, and at a fixed place, and then
+    /// nothing changes.
     pub fn deposit(&mut self, address: u32, word: u16) -> Result<(), Denial>
         ensures says { Says S.Store.meaning B.Bus.devices (deposit address word) self.old (done_by result) self.new }
         ensures denied { OnErr result (self.new ≡ self.old) }
@@ -91,7 +93,8 @@ impl<S: Store, B: Bus> Machine<S, B> {
         deposit_at(&mut self.core, address, word)
     }
 
-    /// Gives a register another number.
+    /// Gives a register another number; the store and the bus stay. Denied at OFF and LOCK, where there is no such register, and where
+    /// it does not take the number, and then nothing changes.
     pub fn set(&mut self, item: Item, value: u32) -> Result<(), Denial>
         ensures says { Says S.Store.meaning B.Bus.devices (set_item item value) self.old (done_by result) self.new }
         ensures denied { OnErr result (self.new ≡ self.old) }
@@ -101,7 +104,7 @@ impl<S: Store, B: Bus> Machine<S, B> {
         set_item(&mut self.core, item, value)
     }
 
-    /// The number in a register.
+    /// The number in a register; nothing changes. Denied at OFF and LOCK, and where there is no such register.
     pub fn show(&mut self, item: Item) -> Result<u32, Denial>
         ensures says { Says S.Store.meaning B.Bus.devices (show_item item) self.old (shown_by result) self.new }
         ensures same { self.new ≡ self.old }
@@ -110,7 +113,8 @@ impl<S: Store, B: Bus> Machine<S, B> {
         item_in(&self.core, item)
     }
 
-    /// Makes one step; an interrupt adds a record to the trace.
+    /// Makes one step; an interrupt adds a record to the trace. Denied at OFF, and where the trace has no room, and then neither the
+    /// machine nor the trace changes.
     pub fn step(&mut self, trace: &mut Queue<'_, Record>) -> Result<StepAnswer, Denial>
         ensures says { Steps S.Store.meaning B.Bus.devices self.old trace.old (stepped_by result) self.new trace.new }
         ensures denied { OnErr result (self.new ≡ self.old) }
@@ -122,7 +126,8 @@ impl<S: Store, B: Bus> Machine<S, B> {
         step(&mut self.core, trace)
     }
 
-    /// Steps until one waits, the trace is full or the count is reached.
+    /// Steps until one waits, the trace is full or the count is reached. Denied at OFF, for a count of 0 or over 1,000,000, and where the
+    /// trace has no room, and then neither the machine nor the trace changes.
     pub fn run(&mut self, count: u32, trace: &mut Queue<'_, Record>) -> Result<RunAnswer, Denial>
         ensures says { Runs S.Store.meaning B.Bus.devices count self.old trace.old (ran_by result) self.new trace.new }
         ensures splits { StepsSplit instruction }
@@ -135,7 +140,8 @@ impl<S: Store, B: Bus> Machine<S, B> {
         run(&mut self.core, trace, count)
     }
 
-    /// Plays a tape with the key ON; answers the number of commands obeyed. The key is back where it was, however the tape ends.
+    /// Plays a tape with the key ON; answers the number of commands obeyed. The key is back where it was, however the tape ends, and what
+    /// the commands before a fault did stands. At OFF nothing is played, and neither the machine nor the trace changes.
     pub fn play(&mut self, tape: &[u8], trace: &mut Queue<'_, Record>) -> Result<usize, TapeFault>
         ensures says { Plays S.Store.meaning B.Bus.devices tape.now self.old trace.old result self.new trace.new }
         ensures key { self.new.key ≡ self.old.key }

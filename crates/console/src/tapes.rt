@@ -46,11 +46,11 @@ fn obey<S: Store, B: Bus>(
     }
 }
 
-/// The address of the next deposit, and the bytes that are still to be read.
+/// The rest of a tape: the address of the next deposit, and the bytes that are still to be read.
 #[derive(Clone, Copy)]
-struct Reader<'t> {
+struct Rest<'t> {
     address: u32,
-    rest: &'t [u8],
+    bytes: &'t [u8],
 }
 
 /// Reads the command at a letter and obeys it.
@@ -60,19 +60,19 @@ fn obey_next<'t, S: Store, B: Bus>(
     bytes: &'t [u8],
     address: u32,
     trace: &mut Queue<'_, Record>,
-) -> Result<Reader<'t>, Denial>
+) -> Result<Rest<'t>, Denial>
     ensures does { MatchResult result
-        (λ r. Advances S.Store.meaning B.Bus.devices letter bytes.now address core.old trace.old r.rest.now r.address core.new trace.new)
+        (λ r. Advances S.Store.meaning B.Bus.devices letter bytes.now address core.old trace.old r.bytes.now r.address core.new trace.new)
         (λ d. StopsAt S.Store.meaning B.Bus.devices letter bytes.now address core.old trace.old d core.new trace.new) }
-    ensures shorter { IfOk result (λ r. length r.rest.now ≤ length bytes.now) }
+    ensures shorter { IfOk result (λ r. length r.bytes.now ≤ length bytes.now) }
     ensures same { SameSlots trace.old trace.new }
     ensures extended { Extended trace.old trace.new }
 {
     let command = read_command(letter, bytes)?;
     let address = obey(core, command.order, address, trace)?;
-    Ok(Reader {
+    Ok(Rest {
         address,
-        rest: command.rest,
+        bytes: command.rest,
     })
 }
 
@@ -100,7 +100,7 @@ fn obey_all<S: Store, B: Bus>(
         })?;
         address = next.address;
         obeyed += 1;
-        rest = next.rest;
+        rest = next.bytes;
     }
     Ok(obeyed)
 }

@@ -1,5 +1,6 @@
 use crate::parts::{UNUSED, denied, played, ran, stepped};
 use bus::silent::SilentBus;
+use buses::teletype::Teletype;
 use console::machine::Machine;
 use model::Item;
 use queue::Queue;
@@ -161,4 +162,25 @@ fn trace_without_room(rt: HostRuntime) {
     assert_eq!(rt; ran(m.run(0, &mut trace)), [4, 3]);
     assert_eq!(rt; played(m.play(b"G\x00\x00\x01", &mut trace)), [9, 0, 0x47]);
     assert_eq!(rt; played(m.play(b"G\x00\x00\x00", &mut trace)), [4, 0, 0x47]);
+}
+
+/// A machine taken apart: the store and the bus are as the calls left them, and the records lie in the first slots.
+#[test]
+fn taken_apart(rt: HostRuntime) {
+    let mut words = [0; 8];
+    let mut slots = [UNUSED; 3];
+    let mut bytes = [0; 4];
+    let mut trace = Queue::new(&mut slots);
+    let mut keyed = Queue::new(&mut bytes);
+    assert!(rt; keyed.push(0x41).is_ok());
+    let mut m = Machine::make(CoreBoards::new(&mut words), Teletype::new(keyed));
+    assert_eq!(rt; denied(m.deposit(4, 0x1234)), 0);
+    assert_eq!(rt; denied(m.set(Item::Status, 0)), 0);
+    assert_eq!(rt; stepped(m.step(&mut trace)), 2);
+    let (store, bus) = m.into_parts();
+    assert_eq!(rt; bus.waiting(), 1);
+    assert_eq!(rt; store.into_words()[2], 0x1234);
+    assert_eq!(rt; u8::from(slots[0].cause), 2);
+    assert_eq!(rt; slots[1], UNUSED);
+    assert_eq!(rt; slots[2], UNUSED);
 }

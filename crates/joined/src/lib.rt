@@ -2,7 +2,7 @@
 #![tactic(auto)]
 
 ghost use Rattle.std.specs.Prelude.{◌≡◌, true, false};
-ghost use Rattle.joined.specs.Parts.{joined, lower_of};
+ghost use Rattle.joined.specs.Parts.{joined, lower_of, OneTouched};
 ghost use Rattle.bus.specs.Devices.{Reads, Writes, Commands};
 
 use bus::meaning::Bus;
@@ -63,6 +63,8 @@ fn lower(first: Option<u8>, second: Option<u8>) -> Option<u8>
 impl<A: Bus, B: Bus> Bus for JoinedBus<A, B> {
     ghost devices = { λ j. joined (A.Bus.devices j.first) (B.Bus.devices j.second) };
 
+    ghost touched = { λ j k. OneTouched A.Bus.touched B.Bus.touched j.first k.first j.second k.second };
+
     fn answers(&self, device: u8) -> bool {
         self.first.answers(device) || self.second.answers(device)
     }
@@ -113,6 +115,7 @@ impl<A: Bus, B: Bus> Bus for JoinedBus<A, B> {
         ensures after { (A.Bus.devices self.old.first device).answers ≡ true → self.new.second ≡ self.old.second }
         ensures first { (A.Bus.devices self.old.first device).answers ≡ true → Reads device (A.Bus.devices self.old.first) (A.Bus.devices self.new.first) }
         ensures second { (A.Bus.devices self.old.first device).answers ≡ false → Reads device (B.Bus.devices self.old.second) (B.Bus.devices self.new.second) }
+        ensures touches { OneTouched A.Bus.touched B.Bus.touched self.old.first self.new.first self.old.second self.new.second }
     {
         if self.first.answers(device) {
             self.first.read(device)
@@ -129,6 +132,7 @@ impl<A: Bus, B: Bus> Bus for JoinedBus<A, B> {
         ensures after { (A.Bus.devices self.old.first device).answers ≡ true → self.new.second ≡ self.old.second }
         ensures first { (A.Bus.devices self.old.first device).answers ≡ true → Writes device byte (A.Bus.devices self.old.first) (A.Bus.devices self.new.first) }
         ensures second { (A.Bus.devices self.old.first device).answers ≡ false → Writes device byte (B.Bus.devices self.old.second) (B.Bus.devices self.new.second) }
+        ensures touches { OneTouched A.Bus.touched B.Bus.touched self.old.first self.new.first self.old.second self.new.second }
     {
         if self.first.answers(device) {
             self.first.write(device, byte);
@@ -145,6 +149,7 @@ impl<A: Bus, B: Bus> Bus for JoinedBus<A, B> {
         ensures after { (A.Bus.devices self.old.first device).answers ≡ true → self.new.second ≡ self.old.second }
         ensures first { (A.Bus.devices self.old.first device).answers ≡ true → Commands device byte (A.Bus.devices self.old.first) (A.Bus.devices self.new.first) }
         ensures second { (A.Bus.devices self.old.first device).answers ≡ false → Commands device byte (B.Bus.devices self.old.second) (B.Bus.devices self.new.second) }
+        ensures touches { OneTouched A.Bus.touched B.Bus.touched self.old.first self.new.first self.old.second self.new.second }
     {
         if self.first.answers(device) {
             self.first.command(device, byte);

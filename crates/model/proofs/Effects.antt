@@ -1,4 +1,4 @@
--- Trees of effects: two machines that look alike run alike, and a protected one is confined. One induction over the tree for each.
+-- Trees of effects: a protected machine is confined, and two that look alike run alike. One induction over the tree for each.
 use Rattle.std.proofs.Common.{◌≡◌, ℕ, ◌/◌, Bool, true, false, cond, Ok, Err, List, length, get_or, set, sym, refl, ap, ◌∙◌, subst, length-set, get_or-set_other}
 use mathlib.Core.Bool.{false≢true}
 use lib.Bits.{bit_or}
@@ -51,6 +51,140 @@ relocated_write :
     (a : ℕ) (f : ℕ → ℕ) (s : State) → relocated s.status ≡ true →
     and_then (translated Write a s) (λ r t. went 0 (written_at r f t)) ≡ write_by (verdict Write s.segments a) (real s.segments a) f s
 relocated_write a f s e = rw e (judged_write (verdict Write s.segments a) (real s.segments a) f s e)
+
+-- ── Confined ──
+-- What is left alone, where status' is the present status or, after an interrupt, the one that it saved; the places outside the writable
+-- window show what held says; and the registers that filled tells are those that the interrupt put something into.
+pub record KeptOf
+    (status status' : ℕ) (registers registers' segments segments' : List ℕ) (bus bus' : Bus) (store' : Store) (held : ℕ → Place)
+    (filled : ℕ → ℕ → Type 0) : Type 0 where
+  pub same_segments : segments' ≡ segments
+  pub outside : (p : ℕ) → (InWritableWindow segments p → ⊥) → at store' p ≡ held p
+  pub same_upper : upper status' ≡ upper status
+  pub other_sets :
+      (k n : ℕ) → (k ≡ selected status → ⊥) → (filled k n → ⊥) → get_or registers' (slot k n) 0 ≡ get_or registers (slot k n) 0
+  pub same_bus : bus' ≡ bus
+  pub same_count : length registers' ≡ length registers
+
+-- .. by what takes no interrupt, and through an interrupt with the record r, which left t.
+abbrev pub Kept : State → State → (ℕ → Place) → Type 0
+Kept s t held =
+    KeptOf s.status t.status s.registers t.registers s.segments t.segments s.bus t.bus t.store held (λ _ _. ⊥)
+
+abbrev pub KeptThrough : State → Record → State → (ℕ → Place) → Type 0
+KeptThrough s r t held =
+    KeptOf s.status r.status s.registers t.registers s.segments t.segments s.bus t.bus t.store held (Fills r.cause)
+
+-- The store alone is altered.
+pub kept_but_store : (s : State) (m : Store) (held : ℕ → Place) → ((p : ℕ) → (InWritableWindow s.segments p → ⊥) → at m p ≡ held p) → Kept s (with_store m s) held
+kept_but_store s m held e =
+    record { same_segments = refl; outside = e; same_upper = refl; other_sets = λ _ _ _ _. refl; same_bus = refl; same_count = refl }
+
+pub kept_same : (s : State) → Kept s s (at s.store)
+kept_same s = kept_but_store s s.store (at s.store) (λ _ _. refl)
+
+-- One after the other: later says what each place shows in the end, by what it showed between.
+pub kept_then :
+    (s t : State) (status' : ℕ) (registers' segments' : List ℕ) (bus' : Bus) (store' : Store) (filled : ℕ → ℕ → Type 0) (held : ℕ → Place)
+    (later : ℕ → Place → Place) → Kept s t held →
+    KeptOf t.status status' t.registers registers' t.segments segments' t.bus bus' store' (λ p. later p (at t.store p)) filled →
+    KeptOf s.status status' s.registers registers' s.segments segments' s.bus bus' store' (λ p. later p (held p)) filled
+kept_then s t status' registers' segments' bus' store' filled held later h k = let e = h.same_segments in record {
+  same_segments = k.same_segments ∙ e;
+  outside = λ p o. k.outside p (subst (λ (g : List ℕ). InWritableWindow g p → ⊥) (sym e) o) ∙ ap (later p) (h.outside p o);
+  same_upper = k.same_upper ∙ h.same_upper;
+  other_sets = λ j n o f.
+      k.other_sets j n (λ e. o (e ∙ selected_upper t.status s.status h.same_upper)) f ∙ h.other_sets j n o (λ z. z);
+  same_bus = k.same_bus ∙ h.same_bus;
+  same_count = k.same_count ∙ h.same_count;
+}
+
+-- .. by a tree of effects, however it ends.
+abbrev pub KeptBy : State → Out → Type 0
+KeptBy s (went v t) = Kept s t (at s.store)
+KeptBy s (stopped c t) = Kept s t (at s.store)
+
+kept_after : (s t : State) (x : Out) → Kept s t (at s.store) → KeptBy t x → KeptBy s x
+kept_after s t (went v u) h k = kept_then s t _ _ _ _ _ _ (at s.store) (λ _ x. x) h k
+kept_after s t (stopped c u) h k = kept_then s t _ _ _ _ _ _ (at s.store) (λ _ x. x) h k
+
+kept_and_then :
+    (s : State) (x : Out) (f : ℕ → State → Out) → Protected s.status → KeptBy s x →
+    ((v : ℕ) (t : State) → Protected t.status → KeptBy t (f v t)) → KeptBy s (and_then x f)
+kept_and_then s (went v t) f g h k = kept_after s t (f v t) h (k v t (protected_upper t.status s.status h.same_upper g))
+kept_and_then s (stopped c t) f g h k = h
+
+kept_on : (b : Bool) (s : State) (x u : Out) → b ≡ true → KeptBy s x → KeptBy s (cond b x u)
+kept_on true s x u p h = h
+kept_on false s x u p h = absurd (false≢true p)
+
+kept_read : (v : Verdict) (r : ℕ) (s : State) → KeptBy s (read_by v r s)
+kept_read (Err x) r s = kept_same s
+kept_read (Ok Plain) r s = kept_same s
+kept_read (Ok Reported) r s = kept_same s
+
+kept_store : (p : ℕ) (f : ℕ → ℕ) (s : State) → InWritableWindow s.segments p → Kept s (with_store (revised s.store p f) s) (at s.store)
+kept_store p f s w =
+    kept_but_store s (revised s.store p f) (at s.store)
+    (λ q o. stored_other s.store p q (f (s.store.word p)) (λ e. o (subst (InWritableWindow s.segments) (sym e) w)))
+
+kept_write : (v : Verdict) (r : ℕ) (f : ℕ → ℕ) (s : State) → (Passes v → InWritableWindow s.segments (r / 2)) → KeptBy s (write_by v r f s)
+kept_write (Err x) r f s w = kept_same s
+kept_write (Ok Plain) r f s w = kept_store (r / 2) f s (w tt)
+kept_write (Ok Reported) r f s w = kept_store (r / 2) f s (w tt)
+
+kept_check : (v : Verdict) (s : State) → KeptBy s (inspected v s)
+kept_check (Err x) s = kept_same s
+kept_check (Ok g) s = kept_same s
+
+module _ (s : State) (g : Protected s.status) where
+  reads_kept : (u : Access) (a : ℕ) → KeptBy s (and_then (translated u (address a) s) read_at)
+  reads_kept u a = subst (KeptBy s) (sym (relocated_read u (address a) s g.relocates)) (kept_read (verdict u s.segments (address a)) _ s)
+
+  writes_kept : (a : ℕ) (f : ℕ → ℕ) → KeptBy s (and_then (translated Write (address a) s) (λ r u. went 0 (written_at r f u)))
+  unfolding place
+  writes_kept a f =
+      subst (KeptBy s) (sym (relocated_write (address a) f s g.relocates))
+      (kept_write (verdict Write s.segments (address a)) (real s.segments (address a)) f s (in_writable s.segments a))
+
+  checks_kept : (u : Access) (a : ℕ) → KeptBy s (checked u (address a) s)
+  checks_kept u a = kept_on (relocated s.status) s _ _ g.relocates (kept_check (verdict u s.segments (address a)) s)
+
+  forbidden_kept : (x u : Out) → KeptBy s x → KeptBy s (cond (protected s.status) x u)
+  forbidden_kept x u = kept_on (protected s.status) s x u g.forbids
+
+-- The induction.
+pub runs_kept : (f : Bus) (p : Prog) (s : State) → Protected s.status → KeptBy s (run f p s)
+runs_kept f (ret v) s g = kept_same s
+runs_kept f (stop c) s g = kept_same s
+runs_kept f privileged s g = forbidden_kept s g _ _ (kept_same s)
+runs_kept f (reg n) s g = kept_same s
+runs_kept f (set_reg n v) s g = record {
+  same_segments = refl;
+  outside = (kept_same s).outside;
+  same_upper = refl;
+  other_sets = λ k j o _.
+      get_or-set_other s.registers (slot (selected s.status) n) (slot k j) v 0 (λ e. o (slot_set k (selected s.status) j n e));
+  same_bus = refl;
+  same_count = length-set s.registers (slot (selected s.status) n) v;
+}
+runs_kept f get_code s g = kept_same s
+runs_kept f (set_code c) s g =
+    record { same_segments = refl; outside = (kept_same s).outside; same_upper = upper_recoded s.status c; other_sets = λ _ _ _ _. refl; same_bus = refl; same_count = refl }
+runs_kept f get_location s g = kept_same s
+runs_kept f (jump a) s g = kept_same s
+runs_kept f (fetch a) s g = reads_kept s g Fetch a
+runs_kept f (load a) s g = reads_kept s g Read a
+runs_kept f (store a w) s g = writes_kept s g a w
+runs_kept f (check u a) s g = checks_kept s g u a
+runs_kept f get_status s g = forbidden_kept s g _ _ (kept_same s)
+runs_kept f (set_status v) s g = forbidden_kept s g _ _ (kept_same s)
+runs_kept f (answers n) s g = forbidden_kept s g _ _ (kept_same s)
+runs_kept f (sense n) s g = forbidden_kept s g _ _ (kept_same s)
+runs_kept f (read_from n) s g = forbidden_kept s g _ _ (kept_same s)
+runs_kept f (write_to n v) s g = forbidden_kept s g _ _ (kept_same s)
+runs_kept f (command_to n v) s g = forbidden_kept s g _ _ (kept_same s)
+runs_kept f (seq p k) s g = kept_and_then s (run f p s) (λ v u. run f (k v) u) g (runs_kept f p s g) (λ v u e. runs_kept f (k v) u e)
 
 -- No register is missing.
 abbrev pub Full : State → Type 0
@@ -239,137 +373,3 @@ runs_alike f g (write_to n v) s t h = forbidden_alike s t h _ _ _ _ (refl, h.1)
 runs_alike f g (command_to n v) s t h = forbidden_alike s t h _ _ _ _ (refl, h.1)
 runs_alike f g (seq p k) s t h =
     same_then (run f p s) (run g p t) (λ v u. run f (k v) u) (λ v u. run g (k v) u) (runs_alike f g p s t h) (λ v u w e. runs_alike f g (k v) u w e)
-
--- ── Confined ──
--- What is left alone, where status' is the present status or, after an interrupt, the one that it saved; the places outside the writable
--- window show what held says; and the registers that filled tells are those that the interrupt put something into.
-pub record KeptOf
-    (status status' : ℕ) (registers registers' segments segments' : List ℕ) (bus bus' : Bus) (store' : Store) (held : ℕ → Place)
-    (filled : ℕ → ℕ → Type 0) : Type 0 where
-  pub same_segments : segments' ≡ segments
-  pub outside : (p : ℕ) → (InWritableWindow segments p → ⊥) → at store' p ≡ held p
-  pub same_upper : upper status' ≡ upper status
-  pub other_sets :
-      (k n : ℕ) → (k ≡ selected status → ⊥) → (filled k n → ⊥) → get_or registers' (slot k n) 0 ≡ get_or registers (slot k n) 0
-  pub same_bus : bus' ≡ bus
-  pub same_count : length registers' ≡ length registers
-
--- .. by what takes no interrupt, and through an interrupt with the record r, which left t.
-abbrev pub Kept : State → State → (ℕ → Place) → Type 0
-Kept s t held =
-    KeptOf s.status t.status s.registers t.registers s.segments t.segments s.bus t.bus t.store held (λ _ _. ⊥)
-
-abbrev pub KeptThrough : State → Record → State → (ℕ → Place) → Type 0
-KeptThrough s r t held =
-    KeptOf s.status r.status s.registers t.registers s.segments t.segments s.bus t.bus t.store held (Fills r.cause)
-
--- The store alone is altered.
-pub kept_but_store : (s : State) (m : Store) (held : ℕ → Place) → ((p : ℕ) → (InWritableWindow s.segments p → ⊥) → at m p ≡ held p) → Kept s (with_store m s) held
-kept_but_store s m held e =
-    record { same_segments = refl; outside = e; same_upper = refl; other_sets = λ _ _ _ _. refl; same_bus = refl; same_count = refl }
-
-pub kept_same : (s : State) → Kept s s (at s.store)
-kept_same s = kept_but_store s s.store (at s.store) (λ _ _. refl)
-
--- One after the other: later says what each place shows in the end, by what it showed between.
-pub kept_then :
-    (s t : State) (status' : ℕ) (registers' segments' : List ℕ) (bus' : Bus) (store' : Store) (filled : ℕ → ℕ → Type 0) (held : ℕ → Place)
-    (later : ℕ → Place → Place) → Kept s t held →
-    KeptOf t.status status' t.registers registers' t.segments segments' t.bus bus' store' (λ p. later p (at t.store p)) filled →
-    KeptOf s.status status' s.registers registers' s.segments segments' s.bus bus' store' (λ p. later p (held p)) filled
-kept_then s t status' registers' segments' bus' store' filled held later h k = let e = h.same_segments in record {
-  same_segments = k.same_segments ∙ e;
-  outside = λ p o. k.outside p (subst (λ (g : List ℕ). InWritableWindow g p → ⊥) (sym e) o) ∙ ap (later p) (h.outside p o);
-  same_upper = k.same_upper ∙ h.same_upper;
-  other_sets = λ j n o f.
-      k.other_sets j n (λ e. o (e ∙ selected_upper t.status s.status h.same_upper)) f ∙ h.other_sets j n o (λ z. z);
-  same_bus = k.same_bus ∙ h.same_bus;
-  same_count = k.same_count ∙ h.same_count;
-}
-
--- .. by a tree of effects, however it ends.
-abbrev pub KeptBy : State → Out → Type 0
-KeptBy s (went v t) = Kept s t (at s.store)
-KeptBy s (stopped c t) = Kept s t (at s.store)
-
-kept_after : (s t : State) (x : Out) → Kept s t (at s.store) → KeptBy t x → KeptBy s x
-kept_after s t (went v u) h k = kept_then s t _ _ _ _ _ _ (at s.store) (λ _ x. x) h k
-kept_after s t (stopped c u) h k = kept_then s t _ _ _ _ _ _ (at s.store) (λ _ x. x) h k
-
-kept_and_then :
-    (s : State) (x : Out) (f : ℕ → State → Out) → Protected s.status → KeptBy s x →
-    ((v : ℕ) (t : State) → Protected t.status → KeptBy t (f v t)) → KeptBy s (and_then x f)
-kept_and_then s (went v t) f g h k = kept_after s t (f v t) h (k v t (protected_upper t.status s.status h.same_upper g))
-kept_and_then s (stopped c t) f g h k = h
-
-kept_on : (b : Bool) (s : State) (x u : Out) → b ≡ true → KeptBy s x → KeptBy s (cond b x u)
-kept_on true s x u p h = h
-kept_on false s x u p h = absurd (false≢true p)
-
-kept_read : (v : Verdict) (r : ℕ) (s : State) → KeptBy s (read_by v r s)
-kept_read (Err x) r s = kept_same s
-kept_read (Ok Plain) r s = kept_same s
-kept_read (Ok Reported) r s = kept_same s
-
-kept_store : (p : ℕ) (f : ℕ → ℕ) (s : State) → InWritableWindow s.segments p → Kept s (with_store (revised s.store p f) s) (at s.store)
-kept_store p f s w =
-    kept_but_store s (revised s.store p f) (at s.store)
-    (λ q o. stored_other s.store p q (f (s.store.word p)) (λ e. o (subst (InWritableWindow s.segments) (sym e) w)))
-
-kept_write : (v : Verdict) (r : ℕ) (f : ℕ → ℕ) (s : State) → (Passes v → InWritableWindow s.segments (r / 2)) → KeptBy s (write_by v r f s)
-kept_write (Err x) r f s w = kept_same s
-kept_write (Ok Plain) r f s w = kept_store (r / 2) f s (w tt)
-kept_write (Ok Reported) r f s w = kept_store (r / 2) f s (w tt)
-
-kept_check : (v : Verdict) (s : State) → KeptBy s (inspected v s)
-kept_check (Err x) s = kept_same s
-kept_check (Ok g) s = kept_same s
-
-module _ (s : State) (g : Protected s.status) where
-  reads_kept : (u : Access) (a : ℕ) → KeptBy s (and_then (translated u (address a) s) read_at)
-  reads_kept u a = subst (KeptBy s) (sym (relocated_read u (address a) s g.relocates)) (kept_read (verdict u s.segments (address a)) _ s)
-
-  writes_kept : (a : ℕ) (f : ℕ → ℕ) → KeptBy s (and_then (translated Write (address a) s) (λ r u. went 0 (written_at r f u)))
-  unfolding place
-  writes_kept a f =
-      subst (KeptBy s) (sym (relocated_write (address a) f s g.relocates))
-      (kept_write (verdict Write s.segments (address a)) (real s.segments (address a)) f s (in_writable s.segments a))
-
-  checks_kept : (u : Access) (a : ℕ) → KeptBy s (checked u (address a) s)
-  checks_kept u a = kept_on (relocated s.status) s _ _ g.relocates (kept_check (verdict u s.segments (address a)) s)
-
-  forbidden_kept : (x u : Out) → KeptBy s x → KeptBy s (cond (protected s.status) x u)
-  forbidden_kept x u = kept_on (protected s.status) s x u g.forbids
-
--- The induction.
-pub runs_kept : (f : Bus) (p : Prog) (s : State) → Protected s.status → KeptBy s (run f p s)
-runs_kept f (ret v) s g = kept_same s
-runs_kept f (stop c) s g = kept_same s
-runs_kept f privileged s g = forbidden_kept s g _ _ (kept_same s)
-runs_kept f (reg n) s g = kept_same s
-runs_kept f (set_reg n v) s g = record {
-  same_segments = refl;
-  outside = (kept_same s).outside;
-  same_upper = refl;
-  other_sets = λ k j o _.
-      get_or-set_other s.registers (slot (selected s.status) n) (slot k j) v 0 (λ e. o (slot_set k (selected s.status) j n e));
-  same_bus = refl;
-  same_count = length-set s.registers (slot (selected s.status) n) v;
-}
-runs_kept f get_code s g = kept_same s
-runs_kept f (set_code c) s g =
-    record { same_segments = refl; outside = (kept_same s).outside; same_upper = upper_recoded s.status c; other_sets = λ _ _ _ _. refl; same_bus = refl; same_count = refl }
-runs_kept f get_location s g = kept_same s
-runs_kept f (jump a) s g = kept_same s
-runs_kept f (fetch a) s g = reads_kept s g Fetch a
-runs_kept f (load a) s g = reads_kept s g Read a
-runs_kept f (store a w) s g = writes_kept s g a w
-runs_kept f (check u a) s g = checks_kept s g u a
-runs_kept f get_status s g = forbidden_kept s g _ _ (kept_same s)
-runs_kept f (set_status v) s g = forbidden_kept s g _ _ (kept_same s)
-runs_kept f (answers n) s g = forbidden_kept s g _ _ (kept_same s)
-runs_kept f (sense n) s g = forbidden_kept s g _ _ (kept_same s)
-runs_kept f (read_from n) s g = forbidden_kept s g _ _ (kept_same s)
-runs_kept f (write_to n v) s g = forbidden_kept s g _ _ (kept_same s)
-runs_kept f (command_to n v) s g = forbidden_kept s g _ _ (kept_same s)
-runs_kept f (seq p k) s g = kept_and_then s (run f p s) (λ v u. run f (k v) u) g (runs_kept f p s g) (λ v u e. runs_kept f (k v) u e)

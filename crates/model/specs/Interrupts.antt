@@ -45,8 +45,8 @@ pub record Records (c : Cause) (own : ℕ) (s : State) (r : Record) : Type 0 whe
   pub location : r.location ≡ own
   pub faults : r.faults ≡ s.faults
 
--- The processor is as in s, and has the PSW with the address own; then an interrupt with the record r makes it t.
--- By way of the PSW at the real address v: an illegal instruction, an arithmetic fault, an access fault.
+-- An interrupt finds the processor as s, leaves it as t, and has the record r.
+-- By way of the PSW at the real address v, with own as the address to save: an illegal instruction, an arithmetic fault, an access fault.
 pub record ByVector (c : Cause) (v own : ℕ) (s : State) (r : Record) (t : State) : Type 0 where
   pub old_status : of_zero 14 t ≡ s.status
   pub old_location : of_zero 15 t ≡ own

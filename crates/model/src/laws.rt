@@ -17,13 +17,13 @@ pub fn unused_bits_stay_zero()
 {}
 
 /// No register is lost, whatever calls the machine gets.
-pub fn registers_stay()
+pub fn no_register_is_lost()
     ensures general { RegistersStay }
     ensures segmentation { SegmentsStay }
 {}
 
 /// The device whose request is taken is the lowest of 1 to 255 that requests.
-pub fn lowest_is_taken()
+pub fn lowest_requester_is_taken()
     ensures { LowestIsTaken }
 {}
 
@@ -32,7 +32,7 @@ pub fn first_denial_is_given()
     ensures { FirstIsGiven }
 {}
 
-/// Which registers an interrupt fills and with what, which PSW it loads, and that all else stays.
-pub fn interrupts_do_as_told()
+/// An interrupt saves the old PSW, and what else it brings, in registers of set 0, and loads a new PSW; all else stays.
+pub fn interrupts_save_and_load()
     ensures { InterruptsInWords }
 {}

@@ -38,7 +38,7 @@ fn item_at<X: Copy>(slots: &[X], at: usize) -> X
 }
 
 impl<'a, X: Copy> Queue<'a, X> {
-    /// An empty queue over the slots.
+    /// An empty queue over the slots, which keep what they hold. The first item will stand in slot 0.
     #[tactic(auto, unfolding(crate::specs::Rows::held))]
     pub fn new(slots: &'a mut [X]) -> Queue<'a, X>
         ensures empty { queued result ≡ [] }
@@ -90,7 +90,8 @@ impl<'a, X: Copy> Queue<'a, X> {
         self.len() >= self.slots.len()
     }
 
-    /// Adds an item behind the others. A full queue stays as it is, and the item comes back.
+    /// Adds an item behind the others, in the slot behind theirs; no other slot changes. A full queue stays as it is, and the item
+    /// comes back.
     #[tactic(auto, using(crate::proofs::Rings::held_length))]
     pub fn push(&mut self, item: X) -> Result<(), X>
         ensures fits { IsOk result ↔ HasRoom self.old }
@@ -112,7 +113,7 @@ impl<'a, X: Copy> Queue<'a, X> {
         Ok(())
     }
 
-    /// Takes the oldest item. An empty queue stays as it is.
+    /// Takes the oldest item; its slot keeps a copy. An empty queue stays as it is.
     #[tactic(auto, using(crate::proofs::Rings::held_length))]
     pub fn pop(&mut self) -> Option<X>
         ensures popped { MatchOption result ((queued self.old ≡ []) × (self.new ≡ self.old)) (λ x. queued self.old ≡ x ∷ queued self.new) }

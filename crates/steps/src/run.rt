@@ -66,8 +66,8 @@ fn run_with_room<S: Store, B: Bus>(
     }
 }
 
-/// Steps until one waits, the trace is full or the count is reached. A count of 0 or over 1,000,000 is denied, and then a trace
-/// without room; then nothing changes.
+/// Steps until one waits, the trace is full or the count is reached. Denied for a count of 0 or over 1,000,000, and where the trace has
+/// no room, and then neither the processor nor the trace changes.
 pub fn run<S: Store, B: Bus>(
     m: &mut Core<S, B>,
     trace: &mut Queue<'_, Record>,

@@ -113,7 +113,8 @@ pub(crate) fn check_room(trace: &Queue<'_, Record>) -> Result<(), Denial>
     }
 }
 
-/// Makes one step, and adds a record to the trace if it takes an interrupt. A trace without room is denied, and then nothing changes.
+/// Makes one step, and adds a record to the trace if it takes an interrupt. Denied where the trace has no room, and then neither the
+/// processor nor the trace changes.
 pub fn step<S: Store, B: Bus>(
     m: &mut Core<S, B>,
     trace: &mut Queue<'_, Record>,

@@ -18,7 +18,8 @@ pub struct CoreBoards<'a> {
 impl<'a> CoreBoards<'a> {
     /// Boards over the first 524,288 of the halfwords, or over all where they are fewer. Those past the limit are not lent on.
     pub fn new(words: &'a mut [u16]) -> CoreBoards<'a>
-        ensures { result.words.now ≡ take store_limit words.old }
+        ensures holds { result.words.now ≡ take store_limit words.old }
+        ensures means { core_boards result.words.now ≡ core_boards words.old }
     {
         let count = words.len().min(LIMIT);
         CoreBoards {

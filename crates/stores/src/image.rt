@@ -18,7 +18,8 @@ impl<'a> ByteImage<'a> {
     /// An image over the whole halfwords within the limit: the first 1,048,576 bytes, or all but a last odd one where they are fewer.
     /// The others are not lent on.
     pub fn new(bytes: &'a mut [u8]) -> ByteImage<'a>
-        ensures { result.bytes.now ≡ take (2 * image_places bytes.old) bytes.old }
+        ensures holds { result.bytes.now ≡ take (2 * image_places bytes.old) bytes.old }
+        ensures means { byte_image result.bytes.now ≡ byte_image bytes.old }
     {
         let places = (bytes.len() / 2).min(LIMIT);
         ByteImage {

@@ -1,1 +1,2 @@
+mod ReadBack
 pub mod Spellings

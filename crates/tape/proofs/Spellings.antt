@@ -2,8 +2,12 @@
 use Rattle.std.proofs.Common.{◌≡◌, ℕ, zero, suc, ◌+◌, ◌≤◌, Bool, false, cond, ltb, List, [], ◌∷◌, length, drop, sym, refl, ap, ◌∙◌, add-zero, arith, rules}
 use Rattle.model.specs.declared.Denial.{Denial}
 use Rattle.model.specs.Answers.{number}
-use Rattle.model.specs.Tapes.{Order, Command, unknown, known, command_of, Spelling, broken, order, spelled, spell_from}
+use Rattle.model.specs.Tapes.{Order, Command, unknown, known, command_of, Spelling, end, broken, order, spelled, spell_from}
 use Rattle.tape.specs.Commands.{Stops, Broken}
+
+pub spell_nothing : (place a : ℕ) → spell_from [] 0 place a ≡ end
+unfolding spell_from
+spell_nothing place a = refl
 
 past : (b : ℕ) (bytes : List ℕ) (size place a : ℕ) → spell_from (b ∷ bytes) (suc size) place a ≡ spell_from bytes size (place + 1) a
 unfolding spell_from

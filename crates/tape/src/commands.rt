@@ -60,13 +60,13 @@ pub fn read_command(letter: u8, bytes: &[u8]) -> Result<Command<'_>, Denial>
             (Order::Deposit(word.value as u16), word)
         }
         'R' => {
-            let (number, value) = take_numbered(bytes)?;
+            let (number, operand) = take_numbered(bytes)?;
             let register = Item::General(number / 16, number % 16);
-            (Order::Set(register, value.value), value)
+            (Order::Set(register, operand.value), operand)
         }
         'S' => {
-            let (number, value) = take_numbered(bytes)?;
-            (Order::Set(Item::Segment(number), value.value), value)
+            let (number, operand) = take_numbered(bytes)?;
+            (Order::Set(Item::Segment(number), operand.value), operand)
         }
         'P' => {
             let status = take_operand::<4>(bytes)?;

@@ -3,4 +3,5 @@
 
 pub mod commands;
 pub mod faults;
+pub mod laws;
 pub mod orders;

@@ -1,5 +1,5 @@
-use Rattle.std.proofs.Common.{◌≡◌, ◌≤◌, ◌∙◌, sym, ap, subst, List, ℕ, length, arith}
-use Rattle.model.specs.Stores.{store_limit, stored}
+use Rattle.std.proofs.Common.{◌≡◌, ◌≤◌, ◌∙◌, sym, ap, List, ℕ, length, arith}
+use Rattle.model.specs.Stores.{store_limit}
 use Rattle.store.specs.Boards.{core_boards, boards_after}
 use Rattle.store.proofs.Limits.{boards_stored, boards_told_apart_lem, length_after}
 use Rattle.stores_test.proofs.lent.send_to_words.Goals as goal
@@ -12,4 +12,4 @@ returns c =
     let means : core_boards c.into_words.result.now ≡ core_boards after =
     ap core_boards c.into_words.ensures.holds ∙ c.send.ensures ∙ sym (boards_stored before c.args.place c.args.word) in
     let told = boards_told_apart_lem c.into_words.result.now after c.into_words.ensures.within many means in
-    told ∙ ap (λ (words : List ℕ). boards_after words c.args.place c.args.word) c.new-boards.ensures
+    told ∙ ap (λ (words : List ℕ). boards_after words c.args.place c.args.word) c.new-boards.ensures.holds

@@ -1,4 +1,4 @@
-use Rattle.model.proofs.laws.registers_stay.Goals as goal
+use Rattle.model.proofs.laws.no_register_is_lost.Goals as goal
 use Rattle.model.proofs.Histories.{registers_stay as general_stay, segments_stay}
 
 pub returns-clause-general : goal.returns-clause-general

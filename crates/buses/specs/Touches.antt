@@ -1,0 +1,24 @@
+-- What a teletype and drives may become when they are touched.
+use Rattle.std.specs.Prelude.{◌≡◌, ◌⊎◌, ℕ}
+use Rattle.queue.specs.Rows.{queued, SameSlots}
+use Rattle.bus.specs.Usages.{once_read}
+use Rattle.buses.specs.Devices.{rest, drive_read, drive_written, drive_commanded, drive_changed}
+use Rattle.buses.specs.declared.teletype.Teletype.{Teletype}
+use Rattle.buses.specs.declared.drives.Drives.{Drives}
+
+-- A teletype that was read: the oldest byte is gone, and the read is counted; the slots hold what they held.
+pub record TeletypeRead (old new : Teletype) : Type 0 where
+  pub bytes : queued new.waiting ≡ rest (queued old.waiting)
+  pub counted : new.usage ≡ once_read old.usage
+  pub same : SameSlots old.waiting new.waiting
+  pub slots : new.waiting.slots.now ≡ old.waiting.slots.now
+
+-- One that was read, written or commanded.
+abbrev pub TeletypeTouched : Teletype → Teletype → Type 0
+TeletypeTouched old new = TeletypeRead old new ⊎ (new.waiting ≡ old.waiting)
+
+-- Drives of which one was read, written or commanded.
+pub data DrivesTouched (old new : Drives) : Type 0 where
+  read : (n : ℕ) → new.drives ≡ drive_changed drive_read old.drives n → DrivesTouched old new
+  written : (n v : ℕ) → new.drives ≡ drive_changed (drive_written v) old.drives n → DrivesTouched old new
+  commanded : (n v : ℕ) → new.drives ≡ drive_changed (drive_commanded v) old.drives n → DrivesTouched old new
