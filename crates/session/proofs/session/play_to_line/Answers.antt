@@ -6,7 +6,6 @@ use Rattle.model.specs.Stores.{Store}
 use Rattle.model.specs.Console.{Desk, made}
 use Rattle.model.specs.Tapes.{Plays}
 use Rattle.store.specs.Boards.{core_boards}
-use Rattle.store.proofs.Limits.{boards_within}
 use Rattle.bus.specs.Devices.{silent}
 use Rattle.instructions.specs.Instructions.{instruction}
 use Rattle.console.specs.Keys.{number_of}
@@ -23,7 +22,7 @@ returns c =
     let w = desk_of (λ s. core_boards s.words.now) (λ b. silent) c.make-machine.result in
     let q = queued c.new-trace.result in
     let fresh = made (core_boards c.args.words.now) silent in
-    let new : w ≡ fresh = c.make-machine.ensures.desk ∙ ap (λ (m : Store). made m silent) (ap core_boards c.new.ensures ∙ boards_within c.args.words.now) in
+    let new : w ≡ fresh = c.make-machine.ensures.desk ∙ ap (λ (m : Store). made m silent) c.new.ensures.means in
     let pinned : c.play.new.trace.slots.now ≡ p ++ drop (length p) c.args.slots.now =
     slots_extended c.args.slots.now c.new-trace.result c.play.new.trace c.new-trace.ensures.slots c.new-trace.ensures.first c.play.ensures.extended in
     record {
