@@ -6,14 +6,14 @@ pub mod marks;
 pub mod wording;
 
 use crate::histories::history;
-use crate::marks::marks_of;
+use crate::marks::{Marks, marks_of};
 use crate::wording::word;
 use bus::silent::SilentBus;
 use buses::teletype::Teletype;
 use comparison::agreement::agreed;
 use comparison::calls::{Call, Continued};
 use comparison::compare::compare;
-use comparison::sides::Side;
+use comparison::sides::{Answered, Side};
 use model::{BLANK, Item};
 use queue::Queue;
 use std::io;
@@ -27,6 +27,51 @@ const BEGINNING: [Call<'static>; 3] = [
     Call::Set(Item::Location, 0),
 ];
 
+// The neighbours: other words beside the program, other registers of set 0, another interrupt.
+const NEIGHBOUR: [Call<'static>; 1] = [Call::Deposit(0x2000, 0x1111)];
+
+const OTHER_NEIGHBOUR: [Call<'static>; 4] = [
+    Call::Deposit(0x2000, 0x9999),
+    Call::Set(Item::General(0, 3), 7),
+    Call::Deposit(0x98, 0x0000),
+    Call::Step,
+];
+
+const LIST: [Continued; 9] = [Continued::Step; 9];
+
+const OTHER_LIST: [Continued; 13] = [
+    Continued::Step,
+    Continued::Deposit(0x2002, 0x7777),
+    Continued::Step,
+    Continued::TurnKey(2),
+    Continued::Deposit(0x1000, 0),
+    Continued::Step,
+    Continued::Show(Item::Status),
+    Continued::Step,
+    Continued::Step,
+    Continued::Step,
+    Continued::Step,
+    Continued::Step,
+    Continued::Step,
+];
+
+/// Prints the answers of a side, each in a line.
+fn print_answers(rt: &HostRuntime, store: &str, answered: &Answered) -> io::Result<()> {
+    for answer in &answered.answers {
+        println!(rt; "{store}: {}", word(*answer))?;
+    }
+    Ok(())
+}
+
+/// Prints what the neighbour left in a machine.
+fn print_marks(rt: &HostRuntime, store: &str, marks: Marks) -> io::Result<()> {
+    let [first, second] = marks.beside;
+    let register = marks.register;
+    println!(rt;
+        "{store}: beside the program {first:04X} {second:04X}, register 3 of set 0 {register:08X}"
+    )
+}
+
 fn main(rt: HostRuntime) -> io::Result<()> {
     let heap = rt.alloc();
     let mut words = vec![in heap; 0u16; 8_192]?;
@@ -34,71 +79,30 @@ fn main(rt: HostRuntime) -> io::Result<()> {
     let mut slots = [BLANK; 4];
     let mut slots2 = [BLANK; 9];
     let mut keys = [0u8; 4];
-
-    // The neighbours: other words beside the program, other registers of set 0, another interrupt.
-    let past = history(heap, &[Call::Deposit(0x2000, 0x1111)], &BEGINNING)?;
-    let past2 = history(
-        heap,
-        &[
-            Call::Deposit(0x2000, 0x9999),
-            Call::Set(Item::General(0, 3), 7),
-            Call::Deposit(0x98, 0x0000),
-            Call::Step,
-        ],
-        &BEGINNING,
-    )?;
-    let list = [Continued::Step; 9];
-    let list2 = [
-        Continued::Step,
-        Continued::Deposit(0x2002, 0x7777),
-        Continued::Step,
-        Continued::TurnKey(2),
-        Continued::Deposit(0x1000, 0),
-        Continued::Step,
-        Continued::Show(Item::Status),
-        Continued::Step,
-        Continued::Step,
-        Continued::Step,
-        Continued::Step,
-        Continued::Step,
-        Continued::Step,
-    ];
+    let past = history(heap, &NEIGHBOUR, &BEGINNING)?;
+    let past2 = history(heap, &OTHER_NEIGHBOUR, &BEGINNING)?;
     let one = Side {
         store: CoreBoards::new(&mut words),
         bus: SilentBus {},
         past: &past,
-        list: &list,
+        list: &LIST,
     };
     let other = Side {
         store: ByteImage::new(&mut bytes),
         bus: Teletype::new(Queue::new(&mut keys)),
         past: &past2,
-        list: &list2,
+        list: &OTHER_LIST,
     };
     let report = compare(heap, one, &mut slots, other, &mut slots2)?;
     let (one, other) = (report.one, report.other);
-    for (store, answered) in [
-        ("core boards", &one.answered),
-        ("byte image", &other.answered),
-    ] {
-        for answer in &answered.answers {
-            println!(rt; "{store}: {}", word(*answer))?;
-        }
-    }
+    print_answers(&rt, "core boards", &one.answered)?;
+    print_answers(&rt, "byte image", &other.answered)?;
     println!(rt;
         "agreed on {} answers; interrupts {} {}",
         agreed(&one.answered.answers, &other.answered.answers),
         one.answered.interrupted(),
         other.answered.interrupted()
     )?;
-    for (store, marks) in [
-        ("core boards", marks_of(one.machine)),
-        ("byte image", marks_of(other.machine)),
-    ] {
-        println!(rt;
-            "{store}: beside the program {:04X} {:04X}, register 3 of set 0 {:08X}",
-            marks.beside[0], marks.beside[1], marks.register
-        )?;
-    }
-    Ok(())
+    print_marks(&rt, "core boards", marks_of(one.machine))?;
+    print_marks(&rt, "byte image", marks_of(other.machine))
 }

@@ -1,12 +1,9 @@
-use Rattle.std.proofs.Common.{◌≡◌, ◌+◌, ◌≤◌, ◌∙◌, None, Some, inl, inr, arith, rules, refl, sym}
-use Rattle.queue.specs.declared.Queue.{Queue}
+use Rattle.std.proofs.Common.{◌≡◌, ◌+◌, ◌≤◌, ◌∙◌, None, Some, inr, arith, rules, refl, sym}
 use Rattle.queue.specs.Rows.{queued, capacity}
 use Rattle.queue.proofs.Extensions.{extended_same, extended_twice}
-use Rattle.model.specs.declared.Record.{Record}
 use Rattle.model.specs.declared.Reason.TheVariants.{Counted}
 use Rattle.model.specs.Answers.{number}
 use Rattle.instructions.specs.Instructions.{instruction}
-use Rattle.console.specs.declared.machine.Machine.{Machine}
 use Rattle.console.specs.View.{desk_of}
 use Rattle.bench.specs.Loops.{start_denial, NotStarted}
 use Rattle.bench.proofs.Chains.{none_yet, one_run, last_run, first_turn, at_start, denied_start, begun_start, next_start}

@@ -1,4 +1,4 @@
-use Rattle.std.proofs.Common.{◌≡◌, ap, rules, refl}
+use Rattle.std.proofs.Common.{◌≡◌, ap, rules}
 use Rattle.model.specs.Answers.{on}
 use Rattle.model.specs.Console.{Did}
 use Rattle.console.specs.Keys.{number_of}
