@@ -1,5 +1,5 @@
 -- What each kind of bus means, by what it is made of.
-use Rattle.std.specs.Prelude.{◌≡◌, ℕ, ◌<◌, ◌≤◌, false}
+use Rattle.std.specs.Prelude.{◌≡◌, ℕ, false}
 use Rattle.model.specs.Buses.{Device, Bus, changed, was_read, was_written, was_commanded}
 
 -- A device that is not there.
@@ -20,7 +20,3 @@ Writes n v old new = new ≡ changed old n (was_written v (new n) (old n))
 
 abbrev pub Commands : ℕ → ℕ → Bus → Bus → Type 0
 Commands n v old new = new ≡ changed old n (was_commanded v (new n) (old n))
-
--- That no device before k requests.
-abbrev pub Quiet : Bus → ℕ → Type 0
-Quiet b k = (j : ℕ) → 1 ≤ j → j < k → (b j).requests ≡ false

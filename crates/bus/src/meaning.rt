@@ -1,7 +1,8 @@
 ghost use Rattle.std.specs.Prelude.{◌≡◌, ◌≤◌, true};
-ghost use Rattle.bus.specs.Devices.{Quiet, Reads, Writes, Commands};
+ghost use Rattle.bus.specs.Devices.{Reads, Writes, Commands};
 ghost use Rattle.bus.specs.Usages.{usage_in};
 ghost use Rattle.model.specs.Buses.{Bus as Meaning, lowest};
+ghost use Rattle.model.specs.Requests.{NoneBelow};
 
 use crate::usage::Usage;
 
@@ -43,7 +44,7 @@ pub trait Bus {
 
     /// The lowest device that requests an interrupt, or none, where no device before `start` does.
     fn requesting_from(&self, start: u8) -> Option<u8>
-        requires { (1 ≤ start) × Quiet (devices self.now) start }
+        requires { (1 ≤ start) × NoneBelow (devices self.now) start }
         ensures { result ≡ lowest (devices self.now) }
     {
         // Not `find`, tried: the library has a lemma on what it answers for `a..b`, and the proof for a range with its end did not close.

@@ -77,10 +77,6 @@ drive_bus drives = λ n. cond (is_drive n) (drive_shown (slice_index_or drives (
 abbrev pub position_of : List Drive → ℕ → Option ℕ
 position_of drives n = cond (is_drive n) (Some (get_or drives (n - 16) new_drive).position) None
 
--- The use of the device n, if it is a drive.
-abbrev pub usage_of : List Drive → ℕ → Option Usage
-usage_of drives n = cond (is_drive n) (Some (get_or drives (n - 16) new_drive).usage) None
-
 -- The drives with that of the device n changed by f.
 abbrev pub drive_changed : (Drive → Drive) → List Drive → ℕ → List Drive
 drive_changed f drives n = slice_set drives (n - 16) (f (slice_index_or drives (n - 16) new_drive))

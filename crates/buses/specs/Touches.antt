@@ -1,8 +1,8 @@
 -- What a teletype and drives may become when they are touched.
-use Rattle.std.specs.Prelude.{◌≡◌, ◌⊎◌, ℕ}
+use Rattle.std.specs.Prelude.{◌≡◌, ◌⊎◌, ℕ, true}
 use Rattle.queue.specs.Rows.{queued, SameSlots}
 use Rattle.bus.specs.Usages.{once_read}
-use Rattle.buses.specs.Devices.{rest, drive_read, drive_written, drive_commanded, drive_changed}
+use Rattle.buses.specs.Devices.{rest, drive_read, drive_written, drive_commanded, is_drive, drive_changed}
 use Rattle.buses.specs.declared.teletype.Teletype.{Teletype}
 use Rattle.buses.specs.declared.drives.Drives.{Drives}
 
@@ -17,8 +17,8 @@ pub record TeletypeRead (old new : Teletype) : Type 0 where
 abbrev pub TeletypeTouched : Teletype → Teletype → Type 0
 TeletypeTouched old new = TeletypeRead old new ⊎ (new.waiting ≡ old.waiting)
 
--- Drives of which one was read, written or commanded.
+-- Drives of which one, the device n, was read, written or commanded.
 pub data DrivesTouched (old new : Drives) : Type 0 where
-  read : (n : ℕ) → new.drives ≡ drive_changed drive_read old.drives n → DrivesTouched old new
-  written : (n v : ℕ) → new.drives ≡ drive_changed (drive_written v) old.drives n → DrivesTouched old new
-  commanded : (n v : ℕ) → new.drives ≡ drive_changed (drive_commanded v) old.drives n → DrivesTouched old new
+  one_read : (n : ℕ) → is_drive n ≡ true → new.drives ≡ drive_changed drive_read old.drives n → DrivesTouched old new
+  one_written : (n v : ℕ) → is_drive n ≡ true → new.drives ≡ drive_changed (drive_written v) old.drives n → DrivesTouched old new
+  one_commanded : (n v : ℕ) → is_drive n ≡ true → new.drives ≡ drive_changed (drive_commanded v) old.drives n → DrivesTouched old new

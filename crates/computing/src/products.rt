@@ -1,5 +1,5 @@
 ghost use Rattle.std.specs.Prelude.{◌≡◌, ◌≤◌};
-ghost use Rattle.processor.specs.View.{Does, SetsQuietly};
+ghost use Rattle.processor.specs.View.{DoesQuietly, SetsQuietly};
 ghost use Rattle.computing.specs.Computing.{pair_of, multiply_tree, divide_tree, m_tree, d_tree};
 
 use bus::meaning::Bus;
@@ -37,7 +37,7 @@ pub fn divide<S: Store, B: Bus>(
     y: u32,
     next: ProgramAddress,
 ) -> Result<(), Trap>
-    ensures { Does S.Store.meaning B.Bus.devices (divide_tree r1 y next.at) m.old result m.new }
+    ensures { DoesQuietly S.Store.meaning B.Bus.devices (divide_tree r1 y next.at) m.old result m.new }
 {
     let first = pair_of(r1);
     let high = m.reg(first);
@@ -51,7 +51,7 @@ pub fn divide<S: Store, B: Bus>(
 
 /// Multiplies by a fullword of the store.
 pub fn multiply_full<S: Store, B: Bus>(m: &mut Core<S, B>, o: Addressed) -> Result<(), Trap>
-    ensures { Does S.Store.meaning B.Bus.devices (m_tree o.r1 o.a.at o.next.at) m.old result m.new }
+    ensures { DoesQuietly S.Store.meaning B.Bus.devices (m_tree o.r1 o.a.at o.next.at) m.old result m.new }
 {
     let y = load_full(m, o.a.to_full())?;
     multiply(m, o.r1, y);
@@ -61,7 +61,7 @@ pub fn multiply_full<S: Store, B: Bus>(m: &mut Core<S, B>, o: Addressed) -> Resu
 
 /// Divides by a fullword of the store.
 pub fn divide_full<S: Store, B: Bus>(m: &mut Core<S, B>, o: Addressed) -> Result<(), Trap>
-    ensures { Does S.Store.meaning B.Bus.devices (d_tree o.r1 o.a.at o.next.at) m.old result m.new }
+    ensures { DoesQuietly S.Store.meaning B.Bus.devices (d_tree o.r1 o.a.at o.next.at) m.old result m.new }
 {
     let y = load_full(m, o.a.to_full())?;
     divide(m, o.r1, y, o.next)

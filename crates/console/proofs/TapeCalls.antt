@@ -1,24 +1,15 @@
 -- A tape, command by command.
-use Rattle.std.proofs.Common.{◌≡◌, ℕ, zero, suc, ◌+◌, ◌-◌, ◌<◌, ◌≤◌, Bool, true, false, cond, ltb, List, [], ◌∷◌, length, get_or, take, drop, Some, None, Ok, Err, Option, Result, MatchResult, IsErrAnd, sym, refl, ap, ◌∙◌, subst, add-zero, arith, length-drop, rules}
+use Rattle.std.proofs.Common.{◌≡◌, ℕ, ◌+◌, ◌-◌, ◌<◌, ◌≤◌, true, List, ◌∷◌, length, get_or, take, drop, Some, None, Ok, Err, Option, Result, MatchResult, IsErrAnd, sym, refl, ap, ◌∙◌, subst, arith, length-drop}
 use Rattle.std.proofs.lemmas.List.{drop_more, take_rest, nil_from_length}
 use Rattle.std.proofs.lemmas.Result.{err_from_is_err_and}
-use Rattle.queue.specs.declared.Queue.{Queue}
-use Rattle.queue.specs.Rows.{queued, capacity}
 use Rattle.model.specs.declared.Denial.{Denial}
 use Rattle.model.specs.declared.Record.{Record}
-use Rattle.model.specs.Stores.{Store}
-use Rattle.model.specs.Buses.{Bus}
 use Rattle.model.specs.Effects.{Prog}
-use Rattle.model.specs.Answers.{number, on, Answer, denied, done, played, faulted, accepted}
-use Rattle.model.specs.Console.{Desk, Act, with_key, call, gives}
-use Rattle.model.specs.Tapes.{Order, Command, unknown, known, command_of, Spelling, end, broken, order, spelled, spell_from, spell, obey, Obeys, Playing, ends, breaks, halts, goes_on, PlaysUnless}
-use Rattle.tape.specs.declared.orders.Order.{Order as TapeOrder}
+use Rattle.model.specs.Answers.{number, on, Answer, denied, played, faulted, accepted}
+use Rattle.model.specs.Console.{Desk, with_key}
+use Rattle.model.specs.Tapes.{Order, Command, unknown, known, command_of, Spelling, end, spell_from, spell, Obeys, Playing, ends, breaks, halts, goes_on, PlaysUnless}
 use Rattle.tape.proofs.Spellings.{spell_nothing, spell_whole, spell_broken}
-use Rattle.tape.specs.Commands.{order_of, Holds, Stops, Broken}
-use Rattle.processor.specs.declared.cpu.Core.{Core}
-use Rattle.instructions.specs.Instructions.{instruction}
-use Rattle.console.specs.View.{done_by}
-use Rattle.console.specs.Tape.{on_desk, Obeyed}
+use Rattle.tape.specs.Commands.{Holds, Broken}
 
 -- What is told of an error.
 pub stopped : {X Y : Type 0} (P : X → Type 0) (Q : Y → Type 0) (r : Result X Y) (d : Y) → r ≡ Err d → Q d → MatchResult r P Q
@@ -66,15 +57,6 @@ module _ (meaning : ℕ → Prog) (cap : ℕ) where
       ap (λ (l : List ℕ). spell_from l 0 at next) er ∙ ap (λ (k : ℕ). spell_from (drop size bytes) 0 k next) ea in
       subst (λ (s : Spelling). Playing meaning cap s n w q x v p) (sym (spell_whole letter a size next place bytes o e h))
       (goes_on b ob acc (subst (λ (s : Spelling). Playing meaning cap s (n + 1) u r x v p) there more))
-
--- An order to the console, by what the call answers.
-pub obeyed_call :
-    {S B : Type 0} (meaning : S → Store) (devices : B → Bus) (a : ℕ) (o : TapeOrder) (c : Act) (m n : Core S B) (t : Queue Record) (r : Result (Unit {0}) Denial) →
-    order_of a o ≡ obey c → call instruction c (on_desk meaning devices m) ≡ gives (done_by r) (on_desk meaning devices n) → Obeyed meaning devices a o m t r n t
-obeyed_call meaning devices a o c m n t (Ok u) eo e =
-    (done, subst (λ (x : Order). Obeys instruction (capacity t) x (on_desk meaning devices m) (queued t) done (on_desk meaning devices n) (queued t)) (sym eo) (e, refl), refl)
-obeyed_call meaning devices a o c m n t (Err d) eo e =
-    subst (λ (x : Order). Obeys instruction (capacity t) x (on_desk meaning devices m) (queued t) (denied (number d)) (on_desk meaning devices n) (queued t)) (sym eo) (e, refl)
 
 pub gone : (bytes rest : List ℕ) (size place : ℕ) → size ≤ length bytes → rest ≡ drop size bytes → place + 1 + (length bytes - length rest) ≡ place + 1 + size
 gone bytes rest size place h e = omega (arith, ap length e, length-drop size bytes)

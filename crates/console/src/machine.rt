@@ -1,4 +1,5 @@
 ghost use Rattle.std.specs.Prelude.{◌≡◌, OnErr};
+ghost use Rattle.bus.specs.Touches.{Becomes};
 ghost use Rattle.queue.specs.Rows.{SameSlots, Extended};
 ghost use Rattle.model.specs.Answers.{off};
 ghost use Rattle.model.specs.Console.{made as made_desk, turn_key, initialise, examine, deposit, set_item, show_item};
@@ -31,9 +32,11 @@ pub struct Machine<S, B> {
 }
 
 impl<S: Store, B: Bus> Machine<S, B> {
-    /// Makes a machine over a store and a bus, its key ON.
+    /// Makes a machine over a store and a bus, which stay as they are, its key ON.
     pub fn make(store: S, bus: B) -> Machine<S, B>
-        ensures { desk_of S.Store.meaning B.Bus.devices result ≡ made_desk (S.Store.meaning store) (B.Bus.devices bus) }
+        ensures desk { desk_of S.Store.meaning B.Bus.devices result ≡ made_desk (S.Store.meaning store) (B.Bus.devices bus) }
+        ensures store { result.core.store ≡ store }
+        ensures bus { result.core.bus ≡ bus }
     {
         Machine {
             key: Key::new(),
@@ -113,12 +116,14 @@ impl<S: Store, B: Bus> Machine<S, B> {
         item_in(&self.core, item)
     }
 
-    /// Makes one step; an interrupt adds a record to the trace. Denied at OFF, and where the trace has no room, and then neither the
-    /// machine nor the trace changes.
+    /// Makes one step; an interrupt adds a record to the trace, and the bus becomes only what reads, writes and commands make of it.
+    /// Denied at OFF, and where the trace has no room, and then neither the machine nor the trace changes.
+    #[tactic(auto, using(bus::proofs::Touches::becomes_same))]
     pub fn step(&mut self, trace: &mut Queue<'_, Record>) -> Result<StepAnswer, Denial>
         ensures says { Steps S.Store.meaning B.Bus.devices self.old trace.old (stepped_by result) self.new trace.new }
         ensures denied { OnErr result (self.new ≡ self.old) }
         ensures denied_trace { OnErr result (trace.new ≡ trace.old) }
+        ensures touches { Becomes B.Bus.touched self.old.core.bus self.new.core.bus }
         ensures same { SameSlots trace.old trace.new }
         ensures extended { Extended trace.old trace.new }
     {
@@ -126,13 +131,16 @@ impl<S: Store, B: Bus> Machine<S, B> {
         step(&mut self.core, trace)
     }
 
-    /// Steps until one waits, the trace is full or the count is reached. Denied at OFF, for a count of 0 or over 1,000,000, and where the
-    /// trace has no room, and then neither the machine nor the trace changes.
+    /// Steps until one waits, the trace is full or the count is reached; the bus becomes only what reads, writes and commands make of it.
+    /// Denied at OFF, for a count of 0 or over 1,000,000, and where the trace has no room, and then neither the machine nor the trace
+    /// changes.
+    #[tactic(auto, using(bus::proofs::Touches::becomes_same))]
     pub fn run(&mut self, count: u32, trace: &mut Queue<'_, Record>) -> Result<RunAnswer, Denial>
         ensures says { Runs S.Store.meaning B.Bus.devices count self.old trace.old (ran_by result) self.new trace.new }
         ensures splits { StepsSplit instruction }
         ensures denied { OnErr result (self.new ≡ self.old) }
         ensures denied_trace { OnErr result (trace.new ≡ trace.old) }
+        ensures touches { Becomes B.Bus.touched self.old.core.bus self.new.core.bus }
         ensures same { SameSlots trace.old trace.new }
         ensures extended { Extended trace.old trace.new }
     {
@@ -141,11 +149,14 @@ impl<S: Store, B: Bus> Machine<S, B> {
     }
 
     /// Plays a tape with the key ON; answers the number of commands obeyed. The key is back where it was, however the tape ends, and what
-    /// the commands before a fault did stands. At OFF nothing is played, and neither the machine nor the trace changes.
+    /// the commands before a fault did stands. The bus becomes only what reads, writes and commands make of it. At OFF nothing is played,
+    /// and neither the machine nor the trace changes.
+    #[tactic(auto, using(bus::proofs::Touches::becomes_same))]
     pub fn play(&mut self, tape: &[u8], trace: &mut Queue<'_, Record>) -> Result<usize, TapeFault>
         ensures says { Plays S.Store.meaning B.Bus.devices tape.now self.old trace.old result self.new trace.new }
         ensures key { self.new.key ≡ self.old.key }
         ensures denied_at_off { number_of self.old.key.position ≡ off → (self.new ≡ self.old) × (trace.new ≡ trace.old) }
+        ensures touches { Becomes B.Bus.touched self.old.core.bus self.new.core.bus }
         ensures same { SameSlots trace.old trace.new }
         ensures extended { Extended trace.old trace.new }
     {

@@ -1,4 +1,5 @@
 ghost use Rattle.std.specs.Prelude.{◌≡◌, ◌≤◌, length, IfOk, MatchResult};
+ghost use Rattle.bus.specs.Touches.{Becomes};
 ghost use Rattle.queue.specs.Rows.{SameSlots, Extended};
 ghost use Rattle.tape.specs.Commands.{next_of};
 ghost use Rattle.console.specs.Tape.{Obeyed, Played, Advances, StopsAt};
@@ -18,6 +19,7 @@ use tape::orders::{Order, TapeFault};
 
 /// Obeys one command, and answers the address of the next deposit, which is at `address` before. With the key ON no call is denied
 /// for the key.
+#[tactic(auto, using(bus::proofs::Touches::becomes_same))]
 fn obey<S: Store, B: Bus>(
     core: &mut Core<S, B>,
     order: Order,
@@ -26,6 +28,7 @@ fn obey<S: Store, B: Bus>(
 ) -> Result<u32, Denial>
     ensures does { Obeyed S.Store.meaning B.Bus.devices address order core.old trace.old result core.new trace.new }
     ensures next { IfOk result (λ n. n ≡ next_of address order) }
+    ensures touches { Becomes B.Bus.touched core.old.bus core.new.bus }
     ensures same { SameSlots trace.old trace.new }
     ensures extended { Extended trace.old trace.new }
 {
@@ -54,6 +57,7 @@ struct Rest<'t> {
 }
 
 /// Reads the command at a letter and obeys it.
+#[tactic(auto, using(bus::proofs::Touches::becomes_same))]
 fn obey_next<'t, S: Store, B: Bus>(
     core: &mut Core<S, B>,
     letter: u8,
@@ -65,6 +69,7 @@ fn obey_next<'t, S: Store, B: Bus>(
         (λ r. Advances S.Store.meaning B.Bus.devices letter bytes.now address core.old trace.old r.bytes.now r.address core.new trace.new)
         (λ d. StopsAt S.Store.meaning B.Bus.devices letter bytes.now address core.old trace.old d core.new trace.new) }
     ensures shorter { IfOk result (λ r. length r.bytes.now ≤ length bytes.now) }
+    ensures touches { Becomes B.Bus.touched core.old.bus core.new.bus }
     ensures same { SameSlots trace.old trace.new }
     ensures extended { Extended trace.old trace.new }
 {
@@ -78,12 +83,14 @@ fn obey_next<'t, S: Store, B: Bus>(
 
 // while let and a count, no iterator: a slice pattern takes the letter (a rule of the project), and a command takes as many bytes as its operand has.
 /// Obeys the commands of a tape, up to the first that is denied.
+#[tactic(auto, using(bus::proofs::Touches::becomes_then))]
 fn obey_all<S: Store, B: Bus>(
     core: &mut Core<S, B>,
     tape: &[u8],
     trace: &mut Queue<'_, Record>,
 ) -> Result<usize, TapeFault>
     ensures played { Played S.Store.meaning B.Bus.devices tape.now core.old trace.old result core.new trace.new }
+    ensures touches { Becomes B.Bus.touched core.old.bus core.new.bus }
     ensures same { SameSlots trace.old trace.new }
     ensures extended { Extended trace.old trace.new }
 {
@@ -106,6 +113,7 @@ fn obey_all<S: Store, B: Bus>(
 }
 
 /// Plays a tape with the key ON; when the guard is dropped, the key is back where it was.
+#[tactic(auto, using(bus::proofs::Touches::becomes_same))]
 pub(crate) fn play_on<S: Store, B: Bus>(
     key: &mut Key,
     core: &mut Core<S, B>,
@@ -114,6 +122,7 @@ pub(crate) fn play_on<S: Store, B: Bus>(
 ) -> Result<usize, TapeFault>
     ensures back { key.new ≡ key.old }
     ensures played { Played S.Store.meaning B.Bus.devices tape.now core.old trace.old result core.new trace.new }
+    ensures touches { Becomes B.Bus.touched core.old.bus core.new.bus }
     ensures same { SameSlots trace.old trace.new }
     ensures extended { Extended trace.old trace.new }
 {

@@ -1,3 +1,4 @@
+ghost use Rattle.bus.specs.Touches.{Becomes};
 ghost use Rattle.processor.specs.View.{Does};
 ghost use Rattle.devices.specs.Devices.{rdr_tree, rd_tree};
 
@@ -9,8 +10,10 @@ use processor::cpu::Core;
 use store::meaning::Store;
 
 /// Reads a device into a register.
+#[tactic(auto, using(bus::proofs::Touches::becomes_same))]
 pub fn rdr<S: Store, B: Bus>(m: &mut Core<S, B>, o: Between) -> Result<(), Trap>
-    ensures { Does S.Store.meaning B.Bus.devices (rdr_tree o.r1 o.r2 o.next.at) m.old result m.new }
+    ensures does { Does S.Store.meaning B.Bus.devices (rdr_tree o.r1 o.r2 o.next.at) m.old result m.new }
+    ensures touches { Becomes B.Bus.touched m.old.bus m.new.bus }
 {
     let Some(d) = device(m, o.r1)? else {
         absent(m, o.next);
@@ -23,8 +26,10 @@ pub fn rdr<S: Store, B: Bus>(m: &mut Core<S, B>, o: Between) -> Result<(), Trap>
 }
 
 /// Reads a device into a byte of the store.
+#[tactic(auto, using(bus::proofs::Touches::becomes_same))]
 pub fn rd<S: Store, B: Bus>(m: &mut Core<S, B>, o: Addressed) -> Result<(), Trap>
-    ensures { Does S.Store.meaning B.Bus.devices (rd_tree o.r1 o.a.at o.next.at) m.old result m.new }
+    ensures does { Does S.Store.meaning B.Bus.devices (rd_tree o.r1 o.a.at o.next.at) m.old result m.new }
+    ensures touches { Becomes B.Bus.touched m.old.bus m.new.bus }
 {
     m.check(Access::Write, o.a)?;
     let Some(d) = device(m, o.r1)? else {

@@ -1,3 +1,4 @@
+ghost use Rattle.bus.specs.Touches.{Becomes};
 ghost use Rattle.processor.specs.View.{Does};
 ghost use Rattle.devices.specs.Devices.{sent, register_out_tree, out_tree};
 
@@ -20,7 +21,8 @@ pub enum Output {
 
 /// Sends a byte to a device.
 fn send<S: Store, B: Bus>(m: &mut Core<S, B>, output: Output, d: u8, byte: u8) -> Result<(), Trap>
-    ensures { Does S.Store.meaning B.Bus.devices (sent output d byte) m.old result m.new }
+    ensures does { Does S.Store.meaning B.Bus.devices (sent output d byte) m.old result m.new }
+    ensures touches { Becomes B.Bus.touched m.old.bus m.new.bus }
 {
     match output {
         Output::Data => m.write_to(d, byte),
@@ -29,12 +31,14 @@ fn send<S: Store, B: Bus>(m: &mut Core<S, B>, output: Output, d: u8, byte: u8) -
 }
 
 /// Sends a device the low byte of a register.
+#[tactic(auto, using(bus::proofs::Touches::becomes_same))]
 pub fn register_out<S: Store, B: Bus>(
     m: &mut Core<S, B>,
     output: Output,
     o: Between,
 ) -> Result<(), Trap>
-    ensures { Does S.Store.meaning B.Bus.devices (register_out_tree output o.r1 o.r2 o.next.at) m.old result m.new }
+    ensures does { Does S.Store.meaning B.Bus.devices (register_out_tree output o.r1 o.r2 o.next.at) m.old result m.new }
+    ensures touches { Becomes B.Bus.touched m.old.bus m.new.bus }
 {
     let Some(d) = device(m, o.r1)? else {
         absent(m, o.next);
@@ -47,8 +51,10 @@ pub fn register_out<S: Store, B: Bus>(
 }
 
 /// Sends a device a byte of the store.
+#[tactic(auto, using(bus::proofs::Touches::becomes_same))]
 pub fn out<S: Store, B: Bus>(m: &mut Core<S, B>, output: Output, o: Addressed) -> Result<(), Trap>
-    ensures { Does S.Store.meaning B.Bus.devices (out_tree output o.r1 o.a.at o.next.at) m.old result m.new }
+    ensures does { Does S.Store.meaning B.Bus.devices (out_tree output o.r1 o.a.at o.next.at) m.old result m.new }
+    ensures touches { Becomes B.Bus.touched m.old.bus m.new.bus }
 {
     m.check(Access::Read, o.a)?;
     let Some(d) = device(m, o.r1)? else {

@@ -1,4 +1,4 @@
-ghost use Rattle.processor.specs.View.{Does, GivesCalmly};
+ghost use Rattle.processor.specs.View.{DoesQuietly, GivesCalmly};
 ghost use Rattle.devices.specs.Devices.{status_tree, ssr_tree, ss_tree};
 
 use crate::named::{device, end};
@@ -21,7 +21,7 @@ fn status<S: Store, B: Bus>(m: &Core<S, B>, r1: u8) -> Result<u8, Trap>
 
 /// Puts the status of a device into a register.
 pub fn ssr<S: Store, B: Bus>(m: &mut Core<S, B>, o: Between) -> Result<(), Trap>
-    ensures { Does S.Store.meaning B.Bus.devices (ssr_tree o.r1 o.r2 o.next.at) m.old result m.new }
+    ensures { DoesQuietly S.Store.meaning B.Bus.devices (ssr_tree o.r1 o.r2 o.next.at) m.old result m.new }
 {
     let byte = status(m, o.r1)?;
     m.set_reg(o.r2, u32::from(byte));
@@ -31,7 +31,7 @@ pub fn ssr<S: Store, B: Bus>(m: &mut Core<S, B>, o: Between) -> Result<(), Trap>
 
 /// Stores the status of a device.
 pub fn ss<S: Store, B: Bus>(m: &mut Core<S, B>, o: Addressed) -> Result<(), Trap>
-    ensures { Does S.Store.meaning B.Bus.devices (ss_tree o.r1 o.a.at o.next.at) m.old result m.new }
+    ensures { DoesQuietly S.Store.meaning B.Bus.devices (ss_tree o.r1 o.a.at o.next.at) m.old result m.new }
 {
     m.check(Access::Write, o.a)?;
     let byte = status(m, o.r1)?;

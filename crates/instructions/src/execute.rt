@@ -1,3 +1,4 @@
+ghost use Rattle.bus.specs.Touches.{Becomes};
 ghost use Rattle.processor.specs.View.{Does};
 ghost use Rattle.instructions.specs.Instructions.{body_of, instruction};
 
@@ -16,13 +17,15 @@ use store::meaning::Store;
 
 // `own` and `first` are no struct, here and in the bodies: each goes elsewhere, `own` to addresses, `first` to `take_apart`.
 /// Does an operation, by its form.
+#[tactic(auto, using(bus::proofs::Touches::becomes_same))]
 fn body<S: Store, B: Bus>(
     m: &mut Core<S, B>,
     operation: Operation,
     own: ProgramAddress,
     first: u16,
 ) -> Result<(), Trap>
-    ensures { Does S.Store.meaning B.Bus.devices (body_of operation own.at first) m.old result m.new }
+    ensures does { Does S.Store.meaning B.Bus.devices (body_of operation own.at first) m.old result m.new }
+    ensures touches { Becomes B.Bus.touched m.old.bus m.new.bus }
 {
     match operation {
         Operation::Register(o) => register(
@@ -46,8 +49,10 @@ fn body<S: Store, B: Bus>(
 }
 
 /// Does the instruction that begins with a halfword.
+#[tactic(auto, using(bus::proofs::Touches::becomes_same))]
 pub fn execute<S: Store, B: Bus>(m: &mut Core<S, B>, first: u16) -> Result<(), Trap>
-    ensures { Does S.Store.meaning B.Bus.devices (instruction first) m.old result m.new }
+    ensures does { Does S.Store.meaning B.Bus.devices (instruction first) m.old result m.new }
+    ensures touches { Becomes B.Bus.touched m.old.bus m.new.bus }
 {
     let own = m.location();
     let operation = operation(code_field(first), m.psw().protected());

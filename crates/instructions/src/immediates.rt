@@ -1,4 +1,4 @@
-ghost use Rattle.processor.specs.View.{Does, SetsQuietly};
+ghost use Rattle.processor.specs.View.{DoesQuietly, SetsQuietly};
 ghost use Rattle.instructions.specs.Instructions.{immediate_tree, immediate_body, long_body};
 
 use bus::meaning::Bus;
@@ -39,7 +39,7 @@ pub fn immediate_body<S: Store, B: Bus>(
     own: ProgramAddress,
     first: u16,
 ) -> Result<(), Trap>
-    ensures { Does S.Store.meaning B.Bus.devices (immediate_body operation own.at first) m.old result m.new }
+    ensures { DoesQuietly S.Store.meaning B.Bus.devices (immediate_body operation own.at first) m.old result m.new }
 {
     let second = m.fetch(own.plus(2))?;
     // Taken apart by slice patterns, here and below: a rule of the project. The halfwords are there, so it is never refused.
@@ -60,7 +60,7 @@ pub fn long_body<S: Store, B: Bus>(
     own: ProgramAddress,
     first: u16,
 ) -> Result<(), Trap>
-    ensures { Does S.Store.meaning B.Bus.devices (long_body function own.at first) m.old result m.new }
+    ensures { DoesQuietly S.Store.meaning B.Bus.devices (long_body function own.at first) m.old result m.new }
 {
     let second = m.fetch(own.plus(2))?;
     let third = m.fetch(own.plus(4))?;

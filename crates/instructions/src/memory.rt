@@ -1,4 +1,5 @@
-ghost use Rattle.processor.specs.View.{Does};
+ghost use Rattle.bus.specs.Touches.{Becomes};
+ghost use Rattle.processor.specs.View.{Does, DoesQuietly};
 ghost use Rattle.instructions.specs.Instructions.{with_half_tree, with_full_tree, lpsw_tree, svc_tree, memory_tree, addressed_tree, memory_body};
 
 use bus::meaning::Bus;
@@ -30,7 +31,7 @@ fn with_half<S: Store, B: Bus>(
     function: Function,
     o: Addressed,
 ) -> Result<(), Trap>
-    ensures { Does S.Store.meaning B.Bus.devices (with_half_tree function o.r1 o.a.at o.next.at) m.old result m.new }
+    ensures { DoesQuietly S.Store.meaning B.Bus.devices (with_half_tree function o.r1 o.a.at o.next.at) m.old result m.new }
 {
     let half = m.load(o.a.to_half())?;
     applied(m, function, o.r1, extended(half), o.next);
@@ -43,7 +44,7 @@ fn with_full<S: Store, B: Bus>(
     function: Function,
     o: Addressed,
 ) -> Result<(), Trap>
-    ensures { Does S.Store.meaning B.Bus.devices (with_full_tree function o.r1 o.a.at o.next.at) m.old result m.new }
+    ensures { DoesQuietly S.Store.meaning B.Bus.devices (with_full_tree function o.r1 o.a.at o.next.at) m.old result m.new }
 {
     let y = load_full(m, o.a.to_full())?;
     applied(m, function, o.r1, y, o.next);
@@ -52,7 +53,7 @@ fn with_full<S: Store, B: Bus>(
 
 /// Loads a PSW.
 fn lpsw<S: Store, B: Bus>(m: &mut Core<S, B>, a: ProgramAddress) -> Result<(), Trap>
-    ensures { Does S.Store.meaning B.Bus.devices (lpsw_tree a.at) m.old result m.new }
+    ensures { DoesQuietly S.Store.meaning B.Bus.devices (lpsw_tree a.at) m.old result m.new }
 {
     let status = load_full(m, a.to_psw())?;
     let location = load_full(m, a.to_psw().plus(4))?;
@@ -63,19 +64,21 @@ fn lpsw<S: Store, B: Bus>(m: &mut Core<S, B>, a: ProgramAddress) -> Result<(), T
 
 /// Calls the supervisor.
 fn svc<S: Store, B: Bus>(m: &mut Core<S, B>, o: Addressed) -> Result<(), Trap>
-    ensures { Does S.Store.meaning B.Bus.devices (svc_tree o.r1 o.a.at o.next.at) m.old result m.new }
+    ensures { DoesQuietly S.Store.meaning B.Bus.devices (svc_tree o.r1 o.a.at o.next.at) m.old result m.new }
 {
     m.jump(o.next);
     Err(Trap::Supervisor(o.r1, u32::from(o.a)))
 }
 
 /// An operation with an address.
+#[tactic(auto, using(bus::proofs::Touches::becomes_same))]
 pub fn memory<S: Store, B: Bus>(
     m: &mut Core<S, B>,
     operation: MemoryOp,
     o: Addressed,
 ) -> Result<(), Trap>
-    ensures { Does S.Store.meaning B.Bus.devices (memory_tree operation o.r1 o.a.at o.next.at) m.old result m.new }
+    ensures does { Does S.Store.meaning B.Bus.devices (memory_tree operation o.r1 o.a.at o.next.at) m.old result m.new }
+    ensures touches { Becomes B.Bus.touched m.old.bus m.new.bus }
 {
     // A match and no table of functions: the arms take different operands, and some answer nothing.
     match operation {
@@ -121,14 +124,15 @@ pub fn memory<S: Store, B: Bus>(
 }
 
 /// Does an instruction with an address that was taken apart.
-#[tactic(auto, unfolding(crate::specs::Instructions::addressed_tree))]
+#[tactic(auto, using(bus::proofs::Touches::becomes_same), unfolding(crate::specs::Instructions::addressed_tree))]
 fn addressed<S: Store, B: Bus>(
     m: &mut Core<S, B>,
     operation: MemoryOp,
     own: ProgramAddress,
     parts: Parts<'_>,
 ) -> Result<(), Trap>
-    ensures { Does S.Store.meaning B.Bus.devices (addressed_tree operation own.at parts.entry.first parts.entry.second parts.entry.third) m.old result m.new }
+    ensures does { Does S.Store.meaning B.Bus.devices (addressed_tree operation own.at parts.entry.first parts.entry.second parts.entry.third) m.old result m.new }
+    ensures touches { Becomes B.Bus.touched m.old.bus m.new.bus }
 {
     let o = Addressed {
         r1: first_field(parts.first),
@@ -139,14 +143,15 @@ fn addressed<S: Store, B: Bus>(
 }
 
 /// Fetches the rest of an instruction with an address, and does it.
-#[tactic(auto, unfolding(crate::specs::Instructions::memory_body))]
+#[tactic(auto, using(bus::proofs::Touches::becomes_same), unfolding(crate::specs::Instructions::memory_body))]
 pub fn memory_body<S: Store, B: Bus>(
     m: &mut Core<S, B>,
     operation: MemoryOp,
     own: ProgramAddress,
     first: u16,
 ) -> Result<(), Trap>
-    ensures { Does S.Store.meaning B.Bus.devices (memory_body operation own.at first) m.old result m.new }
+    ensures does { Does S.Store.meaning B.Bus.devices (memory_body operation own.at first) m.old result m.new }
+    ensures touches { Becomes B.Bus.touched m.old.bus m.new.bus }
 {
     let second = m.fetch(own.plus(2))?;
     let third = third(m, own, second)?;

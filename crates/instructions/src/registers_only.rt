@@ -1,4 +1,5 @@
-ghost use Rattle.processor.specs.View.{Does, Sets};
+ghost use Rattle.bus.specs.Touches.{Becomes};
+ghost use Rattle.processor.specs.View.{Does, DoesQuietly, SetsQuietly};
 ghost use Rattle.instructions.specs.Instructions.{balr_tree, lpswr_tree, epsr_tree, register_tree, short_tree};
 
 use bus::meaning::Bus;
@@ -22,7 +23,7 @@ use words::sums::difference;
 
 /// Branch and link: the target is taken before the register changes.
 fn balr<S: Store, B: Bus>(m: &mut Core<S, B>, o: Between)
-    ensures { Sets S.Store.meaning B.Bus.devices (balr_tree o.r1 o.r2 o.next.at) m.old m.new }
+    ensures { SetsQuietly S.Store.meaning B.Bus.devices (balr_tree o.r1 o.r2 o.next.at) m.old m.new }
 {
     let target = m.reg(o.r2);
     m.set_reg(o.r1, u32::from(o.next));
@@ -31,7 +32,7 @@ fn balr<S: Store, B: Bus>(m: &mut Core<S, B>, o: Between)
 
 /// Loads a PSW from two registers.
 fn lpswr<S: Store, B: Bus>(m: &mut Core<S, B>, r2: u8) -> Result<(), Trap>
-    ensures { Does S.Store.meaning B.Bus.devices (lpswr_tree r2) m.old result m.new }
+    ensures { DoesQuietly S.Store.meaning B.Bus.devices (lpswr_tree r2) m.old result m.new }
 {
     let status = m.reg(r2);
     let location = m.reg(following(r2, 1));
@@ -42,7 +43,7 @@ fn lpswr<S: Store, B: Bus>(m: &mut Core<S, B>, r2: u8) -> Result<(), Trap>
 
 /// Exchanges the status: the first register takes the old one before the second is read.
 fn epsr<S: Store, B: Bus>(m: &mut Core<S, B>, o: Between) -> Result<(), Trap>
-    ensures { Does S.Store.meaning B.Bus.devices (epsr_tree o.r1 o.r2 o.next.at) m.old result m.new }
+    ensures { DoesQuietly S.Store.meaning B.Bus.devices (epsr_tree o.r1 o.r2 o.next.at) m.old result m.new }
 {
     let old = m.status()?;
     m.set_reg(o.r1, old);
@@ -53,12 +54,14 @@ fn epsr<S: Store, B: Bus>(m: &mut Core<S, B>, o: Between) -> Result<(), Trap>
 }
 
 /// An operation between two registers.
+#[tactic(auto, using(bus::proofs::Touches::becomes_same))]
 pub fn register<S: Store, B: Bus>(
     m: &mut Core<S, B>,
     operation: RegisterOp,
     o: Between,
 ) -> Result<(), Trap>
-    ensures { Does S.Store.meaning B.Bus.devices (register_tree operation o.r1 o.r2 o.next.at) m.old result m.new }
+    ensures does { Does S.Store.meaning B.Bus.devices (register_tree operation o.r1 o.r2 o.next.at) m.old result m.new }
+    ensures touches { Becomes B.Bus.touched m.old.bus m.new.bus }
 {
     // A match and no table of functions: the arms take different operands, and some cannot stop.
     match operation {
@@ -119,7 +122,7 @@ pub fn short<S: Store, B: Bus>(
     r1: u8,
     n: u8,
 )
-    ensures { Sets S.Store.meaning B.Bus.devices (short_tree operation own.at r1 n) m.old m.new }
+    ensures { SetsQuietly S.Store.meaning B.Bus.devices (short_tree operation own.at r1 n) m.old m.new }
 {
     let next = own.plus(2);
     let distance = 2 * u16::from(n);

@@ -13,10 +13,10 @@ use Rattle.model.specs.Controller.{used}
 use Rattle.model.specs.Effects.{Prog}
 use Rattle.model.specs.Steps.{Ending, finished, waiting, took, stepped}
 use Rattle.model.specs.Answers.{number, off, on, lock, Answer, denied, faulted, accepted}
-use Rattle.model.specs.Console.{Desk, Act, turn_key, initialise, examine, deposit, set_item, show_item, step, or_else, deny_if, off_denial, key_denial, strange, denial, Did, did_step, unless_denied, obeyed, call}
+use Rattle.model.specs.Console.{Desk, Act, turn_key, initialise, examine, deposit, set_item, show_item, step, or_else, deny_if, off_denial, key_denial, strange, denial, Did, did_step, unless_denied, obeyed, call, Leaves}
 use Rattle.model.specs.Runs.{run_denial, RunsUnless, Runs}
 use Rattle.model.specs.Tapes.{Order, point, obey, go, Command, unknown, known, Spelling, end, broken, order, spelled, Obeys, Playing, ends, breaks, halts, goes_on, PlaysUnless, Plays}
-use Rattle.model.specs.Denials.{Call, act, run, tape, nothing, plain, command, ordered, turns_key, goes_at_lock, applies, first_denial, Leaves, Given, GoesOn, GivenTape, GivenLetter, FirstIsGiven}
+use Rattle.model.specs.Denials.{Call, act, run, tape, nothing, plain, command, call_of_order, turns_key, goes_at_lock, applies, first_denial, Given, GoesOn, GivenTape, GivenLetter, FirstIsGiven}
 
 -- ── Tests in two wordings ──
 unused_set : (v : ℕ) → not (eqb (used v) v) ≡ (leb (2 ^ 28) v || not (eqb (v % 2 ^ 4) 0))
@@ -97,7 +97,7 @@ given_call meaning c w =
 given_ran :
     (meaning : ℕ → Prog) (d : Option ℕ) (cap count : ℕ) (w v : Desk) (q p : List Record) (a : Answer) → RunsUnless meaning d cap count w q a v p →
     Given d a w v q p
-given_ran meaning (Some n) cap count w v q p a h = record { answer = h.answer; machine = h.machine; trace = h.trace }
+given_ran meaning (Some n) cap count w v q p a h = h
 given_ran meaning None cap count w v q p a h = ap accepted h.answer
 
 given_run :
@@ -110,7 +110,7 @@ given_run meaning cap count w q a v p h =
 given_played :
     (meaning : ℕ → Prog) (d : Option ℕ) (cap : ℕ) (bytes : List ℕ) (w v : Desk) (q p : List Record) (a : Answer) →
     PlaysUnless meaning d cap bytes w q a v p → GivenTape meaning cap d bytes w q a v p
-given_played meaning (Some n) cap bytes w v q p a h = record { answer = h.answer; machine = h.machine; trace = h.trace }
+given_played meaning (Some n) cap bytes w v q p a h = h
 given_played meaning None cap bytes w v q p a h = h
 
 given_tape :
@@ -146,7 +146,7 @@ retraced None a w v q p e h = h
 -- An order that is obeyed or denied.
 given_order :
     (meaning : ℕ → Prog) (cap : ℕ) (o : Order) (w : Desk) (q : List Record) (a : Answer) (v : Desk) (p : List Record) → w.key ≡ on →
-    Obeys meaning cap o w q a v p → Given (option_map number (at_on (ordered o (cap - length q)) w)) a w v q p
+    Obeys meaning cap o w q a v p → Given (option_map number (at_on (call_of_order o (cap - length q)) w)) a w v q p
 given_order meaning cap point w q a v p e h = ap accepted h.0
 given_order meaning cap (obey c) w q a v p e h =
     subst (λ (x : Option ℕ). Given x a w v q p) (key_on (act c) w _ e)
@@ -181,10 +181,10 @@ module _ (meaning : ℕ → Prog) (cap : ℕ) (size : ℕ) (o : Order) (next let
 
   letter_if :
       (b : Bool) → w.key ≡ on → Headed meaning cap (cond b (broken 6 place letter) (order o letter place (more size next))) n w q a v p →
-      GivenLetter meaning cap (option_map number (cond b (Some CutShort) (at_on (ordered o (cap - length q)) w))) (known size o next) letter place more n w q a v p
+      GivenLetter meaning cap (option_map number (cond b (Some CutShort) (at_on (call_of_order o (cap - length q)) w))) (known size o next) letter place more n w q a v p
   letter_if true e h = h
   letter_if false e h =
-      let x = option_map number (at_on (ordered o (cap - length q)) w) in
+      let x = option_map number (at_on (call_of_order o (cap - length q)) w) in
       ⊎_elim
       (λ k. stopped_by x k.0 (given_order meaning cap o w q (denied k.0) v p e k.1) k.2)
       (λ g. gone_on x g (given_order meaning cap o w q g.answer g.machine g.trace e g.obeys))
@@ -197,7 +197,7 @@ given_letter :
 given_letter meaning cap unknown letter place rest more n w q a v p e h =
     subst (λ (x : Option ℕ). GivenLetter meaning cap x unknown letter place more n w q a v p) (sym (key_on nothing w (Some UnknownLetter) e)) (headed h)
 given_letter meaning cap (known size o next) letter place rest more n w q a v p e h =
-    let c = ordered o (cap - length q) in
+    let c = call_of_order o (cap - length q) in
     let b = nat_lt (length rest) size in
     subst (λ (x : Option ℕ). GivenLetter meaning cap x (known size o next) letter place more n w q a v p)
     (sym (key_on c w (cond b (Some CutShort) (at_on c w)) e)) (letter_if meaning cap size o next letter place more n w q a v p b e (headed h))

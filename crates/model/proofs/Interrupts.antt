@@ -9,7 +9,7 @@ use Rattle.model.specs.Stores.{half_at}
 use Rattle.model.specs.Buses.{lowest}
 use Rattle.model.specs.States.{State}
 use Rattle.model.specs.Status.{arithmetic_on, register_count, slot, counter, to_half}
-use Rattle.model.specs.Steps.{Ending, recorded, into_zero, saved, interrupted, supervised, requested, poll, served}
+use Rattle.model.specs.Steps.{Ending, finished, recorded, into_zero, saved, interrupted, supervised, requested, poll, served}
 use Rattle.model.specs.Interrupts.{filled_registers, Fills, Records, ByVector, BySupervisor, ByDevice, Took, InterruptsInWords}
 use Rattle.model.proofs.Requests.{lowest_is_taken}
 
@@ -79,6 +79,7 @@ by_vector c v own s f h = record {
     registers = λ k n o. saved_other k n s.status own s.registers (f.fourteen k n o) (f.fifteen k n o);
     segments = refl;
     faults = refl;
+    pending = refl;
     store = refl;
     bus = refl;
   };
@@ -103,6 +104,7 @@ by_supervisor n a s h =
             ∙ into_other 13 a k j s.registers (lit< tt) (apart SupervisorCall 0 13 k j (lit< tt) (λ _. refl) o);
         segments = refl;
         faults = refl;
+        pending = refl;
         store = refl;
         bus = refl;
       };
@@ -143,6 +145,7 @@ by_device n s h =
             ∙ into_other 0 _ k j s.registers (lit< tt) (out 0 0 (lit< tt) (λ _. refl));
         segments = refl;
         faults = refl;
+        pending = refl;
         store = refl;
         bus = refl;
       };
@@ -164,4 +167,6 @@ interrupts_in_words = record {
   arithmetic = λ own s h e. took_if (arithmetic_on s.status) _ _ _ e (by_vector ArithmeticFault 0x48 s.location s arithmetic_fills h);
   refused = λ own s h. by_vector AccessFault 0x90 own s access_fills h;
   reported = λ own v s h e. took_if s.pending _ _ _ e (by_vector AccessFault 0x90 s.location s access_fills h);
+  masked = λ own s e. ap (λ (b : Bool). cond b (interrupted ArithmeticFault 0x48 s.location s) (finished s)) e;
+  unreported = λ own v s e. ap (λ (b : Bool). cond b (interrupted AccessFault 0x90 s.location s) (finished s)) e;
 }

@@ -1,39 +1,36 @@
 -- The search for the lowest request, device by device.
-use Rattle.std.proofs.Common.{◌≡◌, ℕ, zero, suc, ◌+◌, ◌<◌, ◌≤◌, true, false, cond, Some, None, Option, refl, sym, ap, subst, ⊎_elim, arith}
+use Rattle.std.proofs.Common.{◌≡◌, ℕ, zero, suc, ◌+◌, ◌≤◌, true, false, cond, Some, None, Option, refl, sym, ap, subst, ⊎_elim, arith}
 use Rattle.std.proofs.lemmas.Bool.{cases_lt}
 use Rattle.model.specs.Buses.{Bus, first_from, lowest}
-use Rattle.model.specs.Requests.{IsLowestRequester, NoneRequests, LowestIsTaken}
+use Rattle.model.specs.Requests.{NoneBelow, IsLowestRequester, NoneRequests, LowestIsTaken}
 
--- No device below k requests.
-abbrev QuietBelow : Bus → ℕ → Type 0
-QuietBelow b k = (j : ℕ) → 1 ≤ j → j < k → (b j).requests ≡ false
-
-quiet_more : (b : Bus) (k : ℕ) → QuietBelow b k → (b k).requests ≡ false → QuietBelow b (k + 1)
-quiet_more b k quiet here j p q = ⊎_elim (λ before. quiet j p before) (λ at. let e : j ≡ k = omega arith in rw e here) (cases_lt j k)
+-- None below k + 1 does where none below k does, nor device k.
+pub none_below_next : (b : Bus) (k : ℕ) → NoneBelow b k → (b k).requests ≡ false → NoneBelow b (k + 1)
+none_below_next b k quiet here j p q = ⊎_elim (λ before. quiet j p before) (λ at. let e : j ≡ k = omega arith in rw e here) (cases_lt j k)
 
 -- What a search finds: the first device that requests, or that none does.
 abbrev pub Found : Bus → Option ℕ → Type 0
 Found b None = NoneRequests b
 Found b (Some n) = IsLowestRequester b n
 
-found_from : (b : Bus) (n k : ℕ) → 1 ≤ k → k + n ≡ 256 → QuietBelow b k → Found b (first_from b n k)
+found_from : (b : Bus) (n k : ℕ) → 1 ≤ k → k + n ≡ 256 → NoneBelow b k → Found b (first_from b n k)
 unfolding first_from
-found_from b zero k l e quiet = λ j p q. quiet j p (omega arith)
+found_from b zero k l e quiet = let z : k ≡ 256 = omega arith in rw z at quiet
 found_from b (suc n) k l e quiet =
     elim (b k).requests as (λ x. (b k).requests ≡ x → Found b (cond x (Some k) (first_from b n (k + 1)))) [
       | true ↦ λ here. record { from = l; to = omega arith; requests = here; none_lower = quiet }
-      | false ↦ λ here. found_from b n (k + 1) (omega arith) (omega arith) (quiet_more b k quiet here)
+      | false ↦ λ here. found_from b n (k + 1) (omega arith) (omega arith) (none_below_next b k quiet here)
     ] refl
 
-lowest_finds : (b : Bus) → Found b (lowest b)
+pub lowest_finds : (b : Bus) → Found b (lowest b)
 unfolding lowest
 lowest_finds b = found_from b 255 1 (omega arith) (omega arith) (λ j l m. absurd (omega arith))
 
 -- Two searches find the same.
 both_found : (b : Bus) (x y : Option ℕ) → Found b x → Found b y → x ≡ y
 both_found b None None p q = refl
-both_found b None (Some e) p q = cc (p e q.from q.to)
-both_found b (Some d) None p q = cc (q d p.from p.to)
+both_found b None (Some e) p q = cc (p e q.from (omega (arith, q.to)))
+both_found b (Some d) None p q = cc (q d p.from (omega (arith, p.to)))
 both_found b (Some d) (Some e) p q =
     ⊎_elim
     (λ less. cc (q.none_lower d p.from less))

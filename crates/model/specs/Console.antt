@@ -1,5 +1,5 @@
 -- The console: every call but run and play, with its denials in their order and what it does.
-use Rattle.std.specs.Prelude.{ℕ, ◌/◌, ◌%◌, ◌^◌, Bool, true, false, cond, not, ◌||◌, List, [], ◌∷◌, ◌++◌, replicate, Some, None, Option, ◌==◌, nat_le, nat_lt, slice_index, slice_set}
+use Rattle.std.specs.Prelude.{◌≡◌, ℕ, ◌/◌, ◌%◌, ◌^◌, Bool, true, false, cond, not, ◌||◌, List, [], ◌∷◌, ◌++◌, replicate, Some, None, Option, ◌==◌, nat_le, nat_lt, slice_index, slice_set}
 use Rattle.model.specs.declared.Kind.{Kind}
 use Rattle.model.specs.declared.Kind.TheVariants.{Writable, Fixed, Unfitted}
 use Rattle.model.specs.declared.Item.{Item}
@@ -145,6 +145,12 @@ did_step w (took r s) = record { answer = stepped (Interrupted r.cause); added =
 abbrev pub unless_denied : Option ℕ → Desk → Did → Did
 unless_denied (Some n) w d = gives (denied n) w
 unless_denied None w d = d
+
+-- The answer a is this refusal, and the machine and the trace are as they were.
+pub record Leaves (refusal a : Answer) (w v : Desk) (q p : List Record) : Type 0 where
+  pub answer : a ≡ refusal
+  pub machine : v ≡ w
+  pub trace : p ≡ q
 
 module _ (meaning : ℕ → Prog) where
   abbrev pub obeyed : Act → Desk → Did

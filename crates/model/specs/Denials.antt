@@ -9,7 +9,7 @@ use Rattle.model.specs.declared.Record.{Record}
 use Rattle.model.specs.Stores.{Store}
 use Rattle.model.specs.Effects.{Prog}
 use Rattle.model.specs.Answers.{number, off, on, lock, Answer, denied, faulted, accepted}
-use Rattle.model.specs.Console.{Desk, Act, turn_key, initialise, examine, deposit, set_item, show_item, step, is_unfitted, is_fixed, call}
+use Rattle.model.specs.Console.{Desk, Act, turn_key, initialise, examine, deposit, set_item, show_item, step, is_unfitted, is_fixed, call, Leaves}
 use Rattle.model.specs.Runs.{Runs}
 use Rattle.model.specs.Tapes.{Order, point, obey, go, Command, unknown, known, Spelling, spelled, Obeys, Playing, PlayedOn, Plays}
 
@@ -28,15 +28,15 @@ pub data Asked : Type 0 where
   command : Command → ℕ → ℕ → Asked
 
 -- The call of an order, and what is called in the end.
-abbrev pub ordered : Order → ℕ → Call
-ordered point room = nothing
-ordered (obey c) room = act c
-ordered (go count) room = run count room
+abbrev pub call_of_order : Order → ℕ → Call
+call_of_order point room = nothing
+call_of_order (obey c) room = act c
+call_of_order (go count) room = run count room
 
 abbrev pub call_of : Asked → Call
 call_of (plain c) = c
 call_of (command unknown left room) = nothing
-call_of (command (known size o next) left room) = ordered o room
+call_of (command (known size o next) left room) = call_of_order o room
 
 -- ── Each denial by itself ──
 -- 7: the key is OFF, for all but a turn of the key.
@@ -127,12 +127,6 @@ abbrev pub first_denial : Asked → Desk → Option ℕ
 first_denial q w = option_map number (find (λ d. applies d q w) in_order)
 
 -- ── The laws ──
--- The answer a is this refusal, and the machine and the trace are as they were.
-pub record Leaves (refusal a : Answer) (w v : Desk) (q p : List Record) : Type 0 where
-  pub answer : a ≡ refusal
-  pub machine : v ≡ w
-  pub trace : p ≡ q
-
 -- A call that is denied with n, or by nothing, and so accepted.
 abbrev pub Given : Option ℕ → Answer → Desk → Desk → List Record → List Record → Type 0
 Given (Some n) a w v q p = Leaves (denied n) a w v q p

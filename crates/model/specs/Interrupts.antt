@@ -1,5 +1,5 @@
 -- What an interrupt does to the machine, in the words of the manual.
-use Rattle.std.specs.Prelude.{◌≡◌, ℕ, ◌+◌, ◌*◌, ◌%◌, ◌^◌, ◌<◌, true, List, [], ◌∷◌, length, Contains, slice_index}
+use Rattle.std.specs.Prelude.{◌≡◌, ℕ, ◌+◌, ◌*◌, ◌%◌, ◌^◌, ◌<◌, true, false, List, [], ◌∷◌, length, Contains, slice_index}
 use Rattle.model.specs.declared.Trap.TheVariants.{Illegal, Arithmetic, Refusal, Supervisor}
 use Rattle.model.specs.declared.Cause.{Cause}
 use Rattle.model.specs.declared.Cause.TheVariants.{IllegalInstruction, ArithmeticFault, AccessFault, SupervisorCall, DeviceRequest}
@@ -29,12 +29,13 @@ Fills c k n = (k ≡ 0) × Contains (filled_registers c) (n % 16)
 abbrev pub of_zero : ℕ → State → ℕ
 of_zero n s = slice_index s.registers (slot 0 n)
 
--- What an interrupt of this cause leaves as it was: all other registers, the segmentation registers, the interrupt status, the store and
--- the bus.
+-- What an interrupt of this cause leaves as it was: all other registers, the segmentation registers, the interrupt status, whether a
+-- write is to be reported, the store and the bus.
 pub record LeavesRest (c : Cause) (s t : State) : Type 0 where
   pub registers : (k n : ℕ) → (Fills c k n → ⊥) → slice_index t.registers (slot k n) ≡ slice_index s.registers (slot k n)
   pub segments : t.segments ≡ s.segments
   pub faults : t.faults ≡ s.faults
+  pub pending : t.pending ≡ s.pending
   pub store : t.store ≡ s.store
   pub bus : t.bus ≡ s.bus
 
@@ -85,6 +86,7 @@ Took (took r t) P = P r t
 
 -- What each interrupt does to a machine with all its registers. If requests are taken, a step takes that of the lowest device that
 -- requests. Of an instruction that stood at own, an illegal one and one whose access is refused save its own address, the others the next.
+-- None is taken, and nothing more changes, at an arithmetic fault that is not enabled, and after an instruction with no write to report.
 pub record InterruptsInWords : Type 0 where
   pub device :
       (meaning : ℕ → Prog) (reply : Bus) (n : ℕ) (s : State) → length s.registers ≡ register_count → polls s.status ≡ true →
@@ -103,3 +105,5 @@ pub record InterruptsInWords : Type 0 where
   pub reported :
       (own v : ℕ) (s : State) → length s.registers ≡ register_count → s.pending ≡ true →
       Took (ended own (went v s)) (ByVector AccessFault 0x90 s.location s)
+  pub masked : (own : ℕ) (s : State) → arithmetic_on s.status ≡ false → ended own (stopped Arithmetic s) ≡ finished s
+  pub unreported : (own v : ℕ) (s : State) → s.pending ≡ false → ended own (went v s) ≡ finished s

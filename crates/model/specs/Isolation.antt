@@ -1,5 +1,5 @@
 -- A protected program is isolated: it can neither see nor touch what is not its own.
-use Rattle.std.specs.Prelude.{◌≡◌, ℕ, ◌<◌, List, length, get_or, take, ◌≢◌, slice_index, slice_index_or}
+use Rattle.std.specs.Prelude.{◌≡◌, ℕ, ◌<◌, List, length, take, ◌≢◌, slice_index, slice_index_or}
 use Rattle.model.specs.declared.Record.{Record}
 use Rattle.model.specs.Stores.{Store, at}
 use Rattle.model.specs.Buses.{Bus}
@@ -8,7 +8,7 @@ use Rattle.model.specs.Status.{upper, selected, slot, register_count}
 use Rattle.model.specs.Effects.{Prog}
 use Rattle.model.specs.Answers.{done}
 use Rattle.model.specs.Console.{Desk}
-use Rattle.model.specs.Interrupts.{Fills}
+use Rattle.model.specs.Interrupts.{Fills, of_zero}
 use Rattle.model.specs.Windows.{InWritableWindow, LookAlike}
 use Rattle.model.specs.Calls.{Reached, Continued, Course, quiet, broken, answers, final, NoDeviceInterrupt, course, AllOutside, by_deposits}
 
@@ -26,8 +26,8 @@ StillAlike (broken xs r s) d = Unit {0}
 -- ── Same saving ──
 -- Registers 14 and 15 of set 0 have the status and the Location Counter of the record.
 pub record Saves (r : Record) (s : State) : Type 0 where
-  pub status : get_or s.registers (slot 0 14) 0 ≡ r.status
-  pub location : get_or s.registers (slot 0 15) 0 ≡ r.location
+  pub status : of_zero 14 s ≡ r.status
+  pub location : of_zero 15 s ≡ r.location
 
 -- Two interrupts that save the same status and Location Counter, each in its record and in its registers.
 pub record SavesTheSame (r q : Record) (s t : State) : Type 0 where
@@ -46,7 +46,7 @@ SameSaving (broken xs r s) (broken ys q t) = SavesTheSame r q s t
 -- Bits 0 to 27 of the status that an interrupt saved, in its record and in register 14 of set 0, are those of the status before.
 pub record SavesUpper (before : ℕ) (r : Record) (s : State) : Type 0 where
   pub in_record : upper r.status ≡ upper before
-  pub in_register : upper (slice_index s.registers (slot 0 14)) ≡ upper before
+  pub in_register : upper (of_zero 14 s) ≡ upper before
 
 -- .. and so are those of the present status where there was no interrupt.
 abbrev pub SameUpper : ℕ → Course → Type 0

@@ -10,7 +10,7 @@ use Rattle.model.specs.States.{State}
 use Rattle.model.specs.Effects.{Prog}
 use Rattle.model.specs.Steps.{stepped, over, over_with}
 use Rattle.model.specs.Answers.{Answer, denied, ran}
-use Rattle.model.specs.Console.{Desk, or_else, deny_if, off_denial, room_denial}
+use Rattle.model.specs.Console.{Desk, or_else, deny_if, off_denial, room_denial, Leaves}
 
 -- Why a run stops after a step, if it does: by its answer, by whether the trace is now full, and by whether the count is reached.
 abbrev pub unless_waiting : Bool → Bool → Option Reason
@@ -71,13 +71,8 @@ module _ (meaning : ℕ → Prog) where
     pub key : v.key ≡ w.key
     pub ran : Ran cap count steps why w.core q v.core p
 
-  pub record Refused (n : ℕ) (w : Desk) (q : List Record) (a : Answer) (v : Desk) (p : List Record) : Type 0 where
-    pub answer : a ≡ denied n
-    pub machine : v ≡ w
-    pub trace : p ≡ q
-
   abbrev pub RunsUnless : Option ℕ → ℕ → ℕ → Desk → List Record → Answer → Desk → List Record → Type 0
-  RunsUnless (Some n) cap count w q a v p = Refused n w q a v p
+  RunsUnless (Some n) cap count w q a v p = Leaves (denied n) a w v q p
   RunsUnless None cap count w q a v p = RanOn cap count w q a v p
 
   -- A run with a count, on the machine w with a trace q of capacity cap.

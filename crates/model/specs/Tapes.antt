@@ -4,7 +4,7 @@ use Rattle.model.specs.declared.Item.TheVariants.{General, Segment, Status, Loca
 use Rattle.model.specs.declared.Record.{Record}
 use Rattle.model.specs.Effects.{Prog}
 use Rattle.model.specs.Answers.{on, Answer, denied, done, played, faulted, accepted}
-use Rattle.model.specs.Console.{Desk, Act, deposit, set_item, call, gives, with_key, off_denial}
+use Rattle.model.specs.Console.{Desk, Act, deposit, set_item, call, gives, with_key, off_denial, Leaves}
 use Rattle.model.specs.Runs.{Runs}
 
 -- ── What the bytes spell ──
@@ -113,13 +113,8 @@ module _ (meaning : ℕ → Prog) where
     pub plays : Playing cap (spell tape) 0 (with_key on w) q a final p
     pub back : v ≡ with_key w.key final
 
-  pub record NotPlayed (n : ℕ) (w : Desk) (q : List Record) (a : Answer) (v : Desk) (p : List Record) : Type 0 where
-    pub answer : a ≡ faulted n 0 None
-    pub machine : v ≡ w
-    pub trace : p ≡ q
-
   abbrev pub PlaysUnless : Option ℕ → ℕ → List ℕ → Desk → List Record → Answer → Desk → List Record → Type 0
-  PlaysUnless (Some n) cap tape w q a v p = NotPlayed n w q a v p
+  PlaysUnless (Some n) cap tape w q a v p = Leaves (faulted n 0 None) a w v q p
   PlaysUnless None cap tape w q a v p = PlayedOn cap tape w q a v p
 
   abbrev pub Plays : ℕ → List ℕ → Desk → List Record → Answer → Desk → List Record → Type 0

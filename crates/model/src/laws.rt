@@ -32,7 +32,8 @@ pub fn first_denial_is_given()
     ensures { FirstIsGiven }
 {}
 
-/// An interrupt saves the old PSW, and what else it brings, in registers of set 0, and loads a new PSW; all else stays.
+/// An interrupt saves the old PSW, and what else it brings, in registers of set 0, and loads a new PSW; all else stays. None is taken at
+/// an arithmetic fault that is not enabled, and after an instruction with no write to report.
 pub fn interrupts_save_and_load()
     ensures { InterruptsInWords }
 {}

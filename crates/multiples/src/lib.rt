@@ -2,7 +2,7 @@
 #![tactic(auto)]
 
 ghost use Rattle.std.specs.Prelude.{◌-◌};
-ghost use Rattle.processor.specs.View.{Does, DoesAlone};
+ghost use Rattle.processor.specs.View.{DoesQuietly, DoesAlone};
 ghost use Rattle.multiples.specs.Multiples.{moved, moves, multiple_tree};
 
 use bus::meaning::Bus;
@@ -60,7 +60,7 @@ fn moves<S: Store, B: Bus>(
 
 /// Loads registers from successive fullwords, or stores them there.
 pub fn multiple<S: Store, B: Bus>(m: &mut Core<S, B>, way: Way, o: Addressed) -> Result<(), Trap>
-    ensures { Does S.Store.meaning B.Bus.devices (multiple_tree way o.r1 o.a.at o.next.at) m.old result m.new }
+    ensures { DoesQuietly S.Store.meaning B.Bus.devices (multiple_tree way o.r1 o.a.at o.next.at) m.old result m.new }
 {
     moves(m, way, o.r1, o.a.to_full())?;
     m.jump(o.next);

@@ -37,9 +37,11 @@ pub(crate) fn at_start() -> (Psw, Registers, Controller)
 }
 
 impl<S: Store, B: Bus> Core<S, B> {
-    /// A processor at its start.
+    /// A processor at its start, over the store and the bus as they are.
     pub fn new(store: S, bus: B) -> Core<S, B>
-        ensures { state_of S.Store.meaning B.Bus.devices result ≡ fresh (S.Store.meaning store) (B.Bus.devices bus) }
+        ensures state { state_of S.Store.meaning B.Bus.devices result ≡ fresh (S.Store.meaning store) (B.Bus.devices bus) }
+        ensures store { result.store ≡ store }
+        ensures bus { result.bus ≡ bus }
     {
         let (psw, registers, controller) = at_start();
         Core {

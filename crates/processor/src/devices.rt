@@ -1,4 +1,5 @@
 ghost use Rattle.model.specs.Effects.{privileged, get_status, set_status, answers, sense, read_from, write_to, command_to};
+ghost use Rattle.bus.specs.Touches.{Becomes};
 ghost use Rattle.processor.specs.View.{Does, Gives, Tells, DoesQuietly};
 
 use crate::cpu::Core;
@@ -49,8 +50,10 @@ impl<S: Store, B: Bus> Core<S, B> {
     }
 
     /// Reads a device, if it answers.
+    #[tactic(auto, using(bus::proofs::Touches::becomes_same, bus::proofs::Touches::touched_once))]
     pub fn read_from(&mut self, device: u8) -> Result<u8, Trap>
-        ensures { Gives S.Store.meaning B.Bus.devices (read_from device) self.old result self.new }
+        ensures does { Gives S.Store.meaning B.Bus.devices (read_from device) self.old result self.new }
+        ensures touches { Becomes B.Bus.touched self.old.bus self.new.bus }
     {
         self.privileged()?;
         if !self.bus.answers(device) {
@@ -61,8 +64,10 @@ impl<S: Store, B: Bus> Core<S, B> {
 
     // write_to and command_to stay two: the model has an effect for each, and each is proved against its own.
     /// Writes a byte to a device, if it answers.
+    #[tactic(auto, using(bus::proofs::Touches::becomes_same, bus::proofs::Touches::touched_once))]
     pub fn write_to(&mut self, device: u8, byte: u8) -> Result<(), Trap>
-        ensures { Does S.Store.meaning B.Bus.devices (write_to device byte) self.old result self.new }
+        ensures does { Does S.Store.meaning B.Bus.devices (write_to device byte) self.old result self.new }
+        ensures touches { Becomes B.Bus.touched self.old.bus self.new.bus }
     {
         self.privileged()?;
         if self.bus.answers(device) {
@@ -72,8 +77,10 @@ impl<S: Store, B: Bus> Core<S, B> {
     }
 
     /// Gives a device a command, if it answers.
+    #[tactic(auto, using(bus::proofs::Touches::becomes_same, bus::proofs::Touches::touched_once))]
     pub fn command_to(&mut self, device: u8, byte: u8) -> Result<(), Trap>
-        ensures { Does S.Store.meaning B.Bus.devices (command_to device byte) self.old result self.new }
+        ensures does { Does S.Store.meaning B.Bus.devices (command_to device byte) self.old result self.new }
+        ensures touches { Becomes B.Bus.touched self.old.bus self.new.bus }
     {
         self.privileged()?;
         if self.bus.answers(device) {

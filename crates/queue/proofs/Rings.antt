@@ -1,7 +1,8 @@
 -- What a queue holds, item by item, and what a push and a pop do to it.
-use Rattle.std.proofs.Common.{◌≡◌, ℕ, ◌+◌, ◌-◌, ◌<◌, min, ◌⊎◌, List, [], ◌∷◌, ◌++◌, length, get_or, take, drop, set, ap, ap₂, refl, ◌∙◌, arith, length-append, length-drop, length-set, length-take}
+use Rattle.std.proofs.Common.{◌≡◌, ℕ, ◌+◌, ◌-◌, ◌%◌, ◌<◌, ◌≤◌, min, ◌⊎◌, inl, inr, sym, List, [], ◌∷◌, ◌++◌, length, get_or, take, drop, set, ap, ap₂, refl, ◌∙◌, arith, length-append, length-drop, length-set, length-take}
 use Rattle.std.proofs.lemmas.List.{places, same_lists, drop_more, take_at}
 use Rattle.std.proofs.lemmas.Grind.{get_or-set_at}
+use Rattle.std.proofs.Math.Nat.{add-mod_left}
 use Rattle.queue.specs.Rows.{held}
 
 module _ {X : Type 0} where
@@ -62,3 +63,15 @@ module _ {X : Type 0} (xs : List X) (h m i n : ℕ) (start : i ≡ min h (length
   held_parts k part =
       let length_held = held_length xs h m in
       same_lists _ _ (simp (length-append, length-take, length-drop) (omega arith)) (λ j d l. grind (arith, places, held_item xs h m j d))
+
+-- the slot behind the newest item stays where it is when the oldest is taken
+pub free_kept :
+    (i n at c size : ℕ) → i ≤ c → 1 ≤ n → at < c → (at ≡ i + 0) ⊎ (at + c ≡ i + 0) → size ≡ n - 1 →
+    (min (at + 1) c + size) % c ≡ (i + n) % c
+free_kept i n at c size whole some inside (inl e) less =
+    let same : min (at + 1) c + size ≡ i + n = omega arith in
+    ap (λ (k : ℕ). k % c) same
+free_kept i n at c size whole some inside (inr e) less =
+    let here : min (at + 1) c + size ≡ n = omega arith in
+    let there : i + n ≡ c + n = omega arith in
+    ap (λ (k : ℕ). k % c) here ∙ sym (add-mod_left c n) ∙ sym (ap (λ (k : ℕ). k % c) there)

@@ -113,12 +113,13 @@ impl<'a, X: Copy> Queue<'a, X> {
         Ok(())
     }
 
-    /// Takes the oldest item; its slot keeps a copy. An empty queue stays as it is.
+    /// Takes the oldest item; its slot keeps a copy, and the slot that is filled next is the same. An empty queue stays as it is.
     #[tactic(auto, using(crate::proofs::Rings::held_length))]
     pub fn pop(&mut self) -> Option<X>
         ensures popped { MatchOption result ((queued self.old ≡ []) × (self.new ≡ self.old)) (λ x. queued self.old ≡ x ∷ queued self.new) }
         ensures same { SameSlots self.old self.new }
         ensures slots { self.new.slots.now ≡ self.old.slots.now }
+        ensures free { free_slot self.new ≡ free_slot self.old }
     {
         let n = self.len();
         if n == 0 {

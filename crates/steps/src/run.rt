@@ -1,4 +1,5 @@
 ghost use Rattle.std.specs.Prelude.{◌≡◌, ◌-◌, ◌<◌, length, IfOk, OnErr};
+ghost use Rattle.bus.specs.Touches.{Becomes};
 ghost use Rattle.queue.specs.Rows.{queued, capacity, HasRoom, SameSlots, Extended};
 ghost use Rattle.model.specs.Console.{or_else, room_denial};
 ghost use Rattle.model.specs.Runs.{count_denial};
@@ -34,6 +35,7 @@ fn check_count(count: u32) -> Result<(), Denial>
 }
 
 /// A run of a count that is not 0, where the trace has room.
+#[tactic(auto, using(bus::proofs::Touches::becomes_then))]
 fn run_with_room<S: Store, B: Bus>(
     m: &mut Core<S, B>,
     trace: &mut Queue<'_, Record>,
@@ -42,6 +44,7 @@ fn run_with_room<S: Store, B: Bus>(
     requires room { HasRoom trace.old }
     requires some { 0 < count }
     ensures does { Runs S.Store.meaning B.Bus.devices count result.steps result.reason m.old trace.old m.new trace.new }
+    ensures touches { Becomes B.Bus.touched m.old.bus m.new.bus }
     ensures same { SameSlots trace.old trace.new }
     ensures extended { Extended trace.old trace.new }
 {
@@ -68,6 +71,7 @@ fn run_with_room<S: Store, B: Bus>(
 
 /// Steps until one waits, the trace is full or the count is reached. Denied for a count of 0 or over 1,000,000, and where the trace has
 /// no room, and then neither the processor nor the trace changes.
+#[tactic(auto, using(bus::proofs::Touches::becomes_same))]
 pub fn run<S: Store, B: Bus>(
     m: &mut Core<S, B>,
     trace: &mut Queue<'_, Record>,
@@ -75,6 +79,7 @@ pub fn run<S: Store, B: Bus>(
 ) -> Result<RunAnswer, Denial>
     ensures refused { refusal result ≡ or_else (count_denial instruction count) (room_denial (capacity trace.old - length (queued trace.old))) }
     ensures does { IfOk result (λ a. Runs S.Store.meaning B.Bus.devices count a.steps a.reason m.old trace.old m.new trace.new) }
+    ensures touches { Becomes B.Bus.touched m.old.bus m.new.bus }
     ensures denied { OnErr result (m.new ≡ m.old) }
     ensures denied_trace { OnErr result (trace.new ≡ trace.old) }
     ensures same { SameSlots trace.old trace.new }

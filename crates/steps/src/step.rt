@@ -1,4 +1,5 @@
 ghost use Rattle.std.specs.Prelude.{◌≡◌, ◌-◌, [], ◌∷◌, ◌++◌, length, IfOk, OnErr};
+ghost use Rattle.bus.specs.Touches.{Becomes};
 ghost use Rattle.queue.specs.Rows.{queued, capacity, HasRoom, SameSlots, Extended};
 ghost use Rattle.model.specs.Console.{room_denial};
 ghost use Rattle.model.specs.Steps.{took, ended, cycle, proceeded};
@@ -61,17 +62,21 @@ fn finish<S: Store, B: Bus>(
 }
 
 /// Fetches an instruction and does it.
+#[tactic(auto, using(bus::proofs::Touches::becomes_same))]
 fn fetch_and_execute<S: Store, B: Bus>(m: &mut Core<S, B>) -> Result<(), Trap>
-    ensures { Does S.Store.meaning B.Bus.devices (cycle instruction) m.old result m.new }
+    ensures does { Does S.Store.meaning B.Bus.devices (cycle instruction) m.old result m.new }
+    ensures touches { Becomes B.Bus.touched m.old.bus m.new.bus }
 {
     let first = m.fetch(m.location())?;
     execute(m, first)
 }
 
 /// A step in which no device is taken.
+#[tactic(auto, using(bus::proofs::Touches::becomes_same))]
 fn proceed<S: Store, B: Bus>(m: &mut Core<S, B>, trace: &mut Queue<'_, Record>) -> StepAnswer
     requires room { HasRoom trace.old }
     ensures does { Ends S.Store.meaning B.Bus.devices (proceeded instruction (B.Bus.devices m.new.bus) (state_of S.Store.meaning B.Bus.devices m.old)) trace.old result m.new trace.new }
+    ensures touches { Becomes B.Bus.touched m.old.bus m.new.bus }
     ensures same { SameSlots trace.old trace.new }
     ensures extended { Extended trace.old trace.new }
 {
@@ -85,12 +90,14 @@ fn proceed<S: Store, B: Bus>(m: &mut Core<S, B>, trace: &mut Queue<'_, Record>) 
 }
 
 /// A step, where the trace has room.
+#[tactic(auto, using(bus::proofs::Touches::becomes_same))]
 pub(crate) fn step_with_room<S: Store, B: Bus>(
     m: &mut Core<S, B>,
     trace: &mut Queue<'_, Record>,
 ) -> StepAnswer
     requires room { HasRoom trace.old }
     ensures does { Steps S.Store.meaning B.Bus.devices m.old trace.old result m.new trace.new }
+    ensures touches { Becomes B.Bus.touched m.old.bus m.new.bus }
     ensures same { SameSlots trace.old trace.new }
     ensures extended { Extended trace.old trace.new }
 {
@@ -115,12 +122,14 @@ pub(crate) fn check_room(trace: &Queue<'_, Record>) -> Result<(), Denial>
 
 /// Makes one step, and adds a record to the trace if it takes an interrupt. Denied where the trace has no room, and then neither the
 /// processor nor the trace changes.
+#[tactic(auto, using(bus::proofs::Touches::becomes_same))]
 pub fn step<S: Store, B: Bus>(
     m: &mut Core<S, B>,
     trace: &mut Queue<'_, Record>,
 ) -> Result<StepAnswer, Denial>
     ensures refused { refusal result ≡ room_denial (capacity trace.old - length (queued trace.old)) }
     ensures does { IfOk result (λ a. Steps S.Store.meaning B.Bus.devices m.old trace.old a m.new trace.new) }
+    ensures touches { Becomes B.Bus.touched m.old.bus m.new.bus }
     ensures denied { OnErr result (m.new ≡ m.old) }
     ensures denied_trace { OnErr result (trace.new ≡ trace.old) }
     ensures same { SameSlots trace.old trace.new }

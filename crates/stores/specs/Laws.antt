@@ -12,7 +12,7 @@ BanksJoined = (xs ys : List ℕ) → behind (core_boards xs) (core_boards ys) �
 abbrev pub ImagesWithin : Type 0
 ImagesWithin = (bytes : List ℕ) → byte_image (take (2 * image_places bytes) bytes) ≡ byte_image bytes
 
--- A list of bytes of which a byte image uses all: an even number within the limit.
+-- A list of bytes of which a byte image uses all: an even number within the limit, each below 256.
 pub record AllUsed (bytes : List ℕ) : Type 0 where
   pub even : length bytes % 2 ≡ 0
   pub within : length bytes ≤ 2 * store_limit

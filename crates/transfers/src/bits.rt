@@ -1,5 +1,5 @@
 ghost use Rattle.std.specs.Prelude.{◌≡◌};
-ghost use Rattle.processor.specs.View.{Does};
+ghost use Rattle.processor.specs.View.{DoesQuietly};
 ghost use Rattle.transfers.specs.Transfers.{bit_place, changed, tbt_tree, change_bit_tree};
 
 use crate::updates::written;
@@ -42,7 +42,7 @@ fn bit_place(a: ProgramAddress, n: u32) -> ProgramAddress
 
 /// Tests a bit.
 pub fn tbt<S: Store, B: Bus>(m: &mut Core<S, B>, o: Addressed) -> Result<(), Trap>
-    ensures { Does S.Store.meaning B.Bus.devices (tbt_tree o.r1 o.a.at o.next.at) m.old result m.new }
+    ensures { DoesQuietly S.Store.meaning B.Bus.devices (tbt_tree o.r1 o.a.at o.next.at) m.old result m.new }
 {
     let n = m.reg(o.r1);
     let half = m.load(bit_place(o.a, n))?;
@@ -57,7 +57,7 @@ pub fn change_bit<S: Store, B: Bus>(
     change: BitChange,
     o: Addressed,
 ) -> Result<(), Trap>
-    ensures { Does S.Store.meaning B.Bus.devices (change_bit_tree change o.r1 o.a.at o.next.at) m.old result m.new }
+    ensures { DoesQuietly S.Store.meaning B.Bus.devices (change_bit_tree change o.r1 o.a.at o.next.at) m.old result m.new }
 {
     let n = m.reg(o.r1);
     let place = bit_place(o.a, n);

@@ -1,4 +1,4 @@
-ghost use Rattle.processor.specs.View.{Does};
+ghost use Rattle.processor.specs.View.{DoesQuietly};
 ghost use Rattle.transfers.specs.Transfers.{sth_tree, st_tree, lhl_tree, lb_tree, stb_tree, clb_tree};
 
 use bus::meaning::Bus;
@@ -13,7 +13,7 @@ use words::sums::compare_logical_code;
 
 /// Stores the low half of a register.
 pub fn sth<S: Store, B: Bus>(m: &mut Core<S, B>, o: Addressed) -> Result<(), Trap>
-    ensures { Does S.Store.meaning B.Bus.devices (sth_tree o.r1 o.a.at o.next.at) m.old result m.new }
+    ensures { DoesQuietly S.Store.meaning B.Bus.devices (sth_tree o.r1 o.a.at o.next.at) m.old result m.new }
 {
     let value = m.reg(o.r1);
     m.store(o.a.to_half(), low_half(value))?;
@@ -23,7 +23,7 @@ pub fn sth<S: Store, B: Bus>(m: &mut Core<S, B>, o: Addressed) -> Result<(), Tra
 
 /// Stores a register.
 pub fn st<S: Store, B: Bus>(m: &mut Core<S, B>, o: Addressed) -> Result<(), Trap>
-    ensures { Does S.Store.meaning B.Bus.devices (st_tree o.r1 o.a.at o.next.at) m.old result m.new }
+    ensures { DoesQuietly S.Store.meaning B.Bus.devices (st_tree o.r1 o.a.at o.next.at) m.old result m.new }
 {
     let value = m.reg(o.r1);
     store_full(m, o.a.to_full(), value)?;
@@ -33,7 +33,7 @@ pub fn st<S: Store, B: Bus>(m: &mut Core<S, B>, o: Addressed) -> Result<(), Trap
 
 /// Loads a halfword as a number from 0 on.
 pub fn lhl<S: Store, B: Bus>(m: &mut Core<S, B>, o: Addressed) -> Result<(), Trap>
-    ensures { Does S.Store.meaning B.Bus.devices (lhl_tree o.r1 o.a.at o.next.at) m.old result m.new }
+    ensures { DoesQuietly S.Store.meaning B.Bus.devices (lhl_tree o.r1 o.a.at o.next.at) m.old result m.new }
 {
     let half = m.load(o.a.to_half())?;
     result(m, o.r1, u32::from(half));
@@ -43,7 +43,7 @@ pub fn lhl<S: Store, B: Bus>(m: &mut Core<S, B>, o: Addressed) -> Result<(), Tra
 
 /// Loads a byte.
 pub fn lb<S: Store, B: Bus>(m: &mut Core<S, B>, o: Addressed) -> Result<(), Trap>
-    ensures { Does S.Store.meaning B.Bus.devices (lb_tree o.r1 o.a.at o.next.at) m.old result m.new }
+    ensures { DoesQuietly S.Store.meaning B.Bus.devices (lb_tree o.r1 o.a.at o.next.at) m.old result m.new }
 {
     let byte = load_byte(m, o.a)?;
     m.set_reg(o.r1, u32::from(byte));
@@ -53,7 +53,7 @@ pub fn lb<S: Store, B: Bus>(m: &mut Core<S, B>, o: Addressed) -> Result<(), Trap
 
 /// Stores the low byte of a register.
 pub fn stb<S: Store, B: Bus>(m: &mut Core<S, B>, o: Addressed) -> Result<(), Trap>
-    ensures { Does S.Store.meaning B.Bus.devices (stb_tree o.r1 o.a.at o.next.at) m.old result m.new }
+    ensures { DoesQuietly S.Store.meaning B.Bus.devices (stb_tree o.r1 o.a.at o.next.at) m.old result m.new }
 {
     let value = m.reg(o.r1);
     m.store_byte(o.a, low_byte(value))?;
@@ -63,7 +63,7 @@ pub fn stb<S: Store, B: Bus>(m: &mut Core<S, B>, o: Addressed) -> Result<(), Tra
 
 /// Compares the low byte of a register with a byte of the store.
 pub fn clb<S: Store, B: Bus>(m: &mut Core<S, B>, o: Addressed) -> Result<(), Trap>
-    ensures { Does S.Store.meaning B.Bus.devices (clb_tree o.r1 o.a.at o.next.at) m.old result m.new }
+    ensures { DoesQuietly S.Store.meaning B.Bus.devices (clb_tree o.r1 o.a.at o.next.at) m.old result m.new }
 {
     let value = m.reg(o.r1);
     let byte = load_byte(m, o.a)?;

@@ -1,4 +1,4 @@
-ghost use Rattle.processor.specs.View.{Does};
+ghost use Rattle.processor.specs.View.{DoesQuietly};
 ghost use Rattle.transfers.specs.Transfers.{written_tree, am_tree, ahm_tree, ts_tree};
 
 use bus::meaning::Bus;
@@ -21,7 +21,7 @@ pub(crate) fn written<S: Store, B: Bus>(
     code: u32,
     next: ProgramAddress,
 ) -> Result<(), Trap>
-    ensures { Does S.Store.meaning B.Bus.devices (written_tree a.at half code next.at) m.old result m.new }
+    ensures { DoesQuietly S.Store.meaning B.Bus.devices (written_tree a.at half code next.at) m.old result m.new }
 {
     m.store(a, half)?;
     m.set_code(code);
@@ -31,7 +31,7 @@ pub(crate) fn written<S: Store, B: Bus>(
 
 /// Adds a register to a fullword of the store.
 pub fn am<S: Store, B: Bus>(m: &mut Core<S, B>, o: Addressed) -> Result<(), Trap>
-    ensures { Does S.Store.meaning B.Bus.devices (am_tree o.r1 o.a.at o.next.at) m.old result m.new }
+    ensures { DoesQuietly S.Store.meaning B.Bus.devices (am_tree o.r1 o.a.at o.next.at) m.old result m.new }
 {
     let x = m.reg(o.r1);
     let y = load_full(m, o.a.to_full())?;
@@ -43,7 +43,7 @@ pub fn am<S: Store, B: Bus>(m: &mut Core<S, B>, o: Addressed) -> Result<(), Trap
 
 /// Adds a register to a halfword of the store.
 pub fn ahm<S: Store, B: Bus>(m: &mut Core<S, B>, o: Addressed) -> Result<(), Trap>
-    ensures { Does S.Store.meaning B.Bus.devices (ahm_tree o.r1 o.a.at o.next.at) m.old result m.new }
+    ensures { DoesQuietly S.Store.meaning B.Bus.devices (ahm_tree o.r1 o.a.at o.next.at) m.old result m.new }
 {
     let x = m.reg(o.r1);
     let half = m.load(o.a.to_half())?;
@@ -59,7 +59,7 @@ pub fn ahm<S: Store, B: Bus>(m: &mut Core<S, B>, o: Addressed) -> Result<(), Tra
 
 /// Sets the first bit of a halfword, and says what it was.
 pub fn ts<S: Store, B: Bus>(m: &mut Core<S, B>, o: Addressed) -> Result<(), Trap>
-    ensures { Does S.Store.meaning B.Bus.devices (ts_tree o.a.at o.next.at) m.old result m.new }
+    ensures { DoesQuietly S.Store.meaning B.Bus.devices (ts_tree o.a.at o.next.at) m.old result m.new }
 {
     let half = m.load(o.a.to_half())?;
     written(

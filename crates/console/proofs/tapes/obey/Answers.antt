@@ -2,14 +2,12 @@ use Rattle.std.proofs.Common.{sym, refl, subst, rules}
 use Rattle.queue.specs.Rows.{queued, capacity}
 use Rattle.queue.proofs.Extensions.{extended_same}
 use Rattle.model.specs.Answers.{done, ran}
-use Rattle.model.specs.Console.{deposit, set_item}
 use Rattle.model.specs.Tapes.{Obeys}
 use Rattle.instructions.specs.Instructions.{instruction}
 use Rattle.tape.specs.declared.orders.Order.{Order}
 use Rattle.tape.specs.Commands.{order_of}
 use Rattle.console.specs.Tape.{on_desk}
 use Rattle.console.proofs.RunCalls.{run_made}
-use Rattle.console.proofs.TapeCalls.{obeyed_call}
 use Rattle.console.proofs.tapes.obey.Goals as goal
 
 pub returns-in-Point-clause-does : goal.returns-in-Point-clause-does

@@ -1,4 +1,5 @@
 use Rattle.std.proofs.Common.{◌≡◌, ◌-◌, ◌≤◌, length, get_or, Some, sym, ap, subst, arith, rules}
+use Rattle.bus.proofs.Touches.{becomes_same, becomes_then}
 use Rattle.queue.specs.Rows.{queued, capacity}
 use Rattle.queue.proofs.Extensions.{extended_same, extended_twice}
 use Rattle.model.specs.Answers.{number, Answer, faulted}
@@ -36,6 +37,7 @@ loop-rest-preserved g c =
     record {
       goes = to_the_next instruction _ _ _ _ rest _ c.loop-rest.address c.loop-rest.obeyed _ _ _ _ _ _ _ _ _ _ _ inv.goes inv.same.size e (omega (arith, ap length e, shorter, inv.part)) (one _);
       part = omega (arith, shorter, ap length e, inv.part);
+      touches = search (rules, becomes_then);
       same = search rules;
       extended = search (rules, extended_twice);
     }
@@ -52,6 +54,7 @@ loop-rest-init g c =
     record {
       goes = search rules;
       part = search rules;
+      touches = search (rules, becomes_same);
       same = search rules;
       extended = extended_same _;
     }

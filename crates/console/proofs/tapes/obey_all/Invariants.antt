@@ -1,4 +1,5 @@
 use Rattle.std.proofs.Common.{◌-◌, ◌+◌, ◌≤◌, List, length}
+use Rattle.bus.specs.Touches.{Becomes}
 use Rattle.queue.specs.Rows.{queued, capacity, SameSlots, Extended}
 use Rattle.model.specs.declared.Record.{Record}
 use Rattle.model.specs.Answers.{Answer}
@@ -19,6 +20,7 @@ invariant-loop-rest g l =
           Playing instruction (capacity l.initial.trace) (spell l.tape) 0
           (on_desk g.S.Store.meaning g.B.Bus.devices l.initial.core) (queued l.initial.trace) x v p;
       part : l.obeyed + length l.rest ≤ length l.tape;
+      touches : Becomes g.B.Bus.touched l.initial.core.bus l.core.bus;
       same : SameSlots l.initial.trace l.trace;
       extended : Extended l.initial.trace l.trace;
     }

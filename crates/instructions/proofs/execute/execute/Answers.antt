@@ -9,9 +9,9 @@ use Rattle.instructions.specs.Instructions.{body_of, instruction}
 use Rattle.instructions.proofs.Guards.{guard_first}
 use Rattle.instructions.proofs.execute.execute.Goals as goal
 
-pub returns : goal.returns
+pub returns-clause-does : goal.returns-clause-does
 unfolding instruction permitted
-returns g c =
+returns-clause-does g c =
     let s = state_of g.S.Store.meaning g.B.Bus.devices c.args.m.now in
     let code = code_field c.args.first in
     let p = c.protected.result in
@@ -22,4 +22,4 @@ returns g c =
     let at : c.location-own.result.at ≡ s.location = cc in
     guard_first p (is_privileged code) (operation_of code) s.location c.args.first reply s z (cc)
     (subst (λ (o : Operation). run reply (body_of o s.location c.args.first) s ≡ z) op
-    (subst (λ (l : ℕ). run reply (body_of c.operation-operation.result l c.args.first) s ≡ z) at c.body.ensures))
+    (subst (λ (l : ℕ). run reply (body_of c.operation-operation.result l c.args.first) s ≡ z) at c.body.ensures.does))

@@ -1,5 +1,5 @@
 use Rattle.std.proofs.Common.{Some, None, sym, ◌∙◌}
-use Rattle.bus.proofs.Searches.{is_lowest}
+use Rattle.model.proofs.Requests.{is_lowest}
 use Rattle.joined.proofs.Joins.{joined_quiet}
 use Rattle.joined.proofs.JoinedBusBus.requesting.Goals as goal
 

@@ -1,4 +1,5 @@
 use Rattle.std.proofs.Common.{◌-◌}
+use Rattle.bus.specs.Touches.{Becomes}
 use Rattle.queue.specs.Rows.{queued, capacity, HasRoom, SameSlots, Extended}
 use Rattle.model.specs.Runs.{Steps}
 use Rattle.processor.specs.View.{state_of}
@@ -13,6 +14,7 @@ invariant-loop-steps g l =
           Steps instruction (capacity l.initial.trace) (l.steps - 1)
           (state_of g.S.Store.meaning g.B.Bus.devices l.initial.m) (queued l.initial.trace)
           (state_of g.S.Store.meaning g.B.Bus.devices l.m) (queued l.trace);
+      touches : Becomes g.B.Bus.touched l.initial.m.bus l.m.bus;
       room : HasRoom l.trace;
       same : SameSlots l.initial.trace l.trace;
       extended : Extended l.initial.trace l.trace;

@@ -1,5 +1,5 @@
 use Rattle.std.proofs.Common.{rules}
-use Rattle.bus.proofs.Searches.{is_lowest, quiet_more}
+use Rattle.model.proofs.Requests.{is_lowest, none_below_next}
 use Rattle.bus.proofs.meaning.Bus.requesting_from.Goals as goal
 
 pub returns-then-requests : goal.returns-then-requests
@@ -7,4 +7,4 @@ returns-then-requests g c = is_lowest _ _ (search rules)
 
 -- the last device was asked too
 pub returns-else-requests : goal.returns-else-requests
-returns-else-requests g c = is_lowest _ _ (search (rules, quiet_more))
+returns-else-requests g c = is_lowest _ _ (search (rules, none_below_next))

@@ -1,5 +1,5 @@
 use Rattle.std.proofs.Common.{refl}
-use Rattle.bus.proofs.Searches.{is_lowest}
+use Rattle.model.proofs.Requests.{is_lowest}
 use Rattle.bus.proofs.silent.SilentBusBus.requesting.Goals as goal
 
 pub returns : goal.returns

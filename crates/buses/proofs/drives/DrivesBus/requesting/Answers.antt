@@ -1,5 +1,5 @@
 use Rattle.std.proofs.Common.{rules}
-use Rattle.bus.proofs.Searches.{is_lowest}
+use Rattle.model.proofs.Requests.{is_lowest}
 use Rattle.buses.proofs.drives.DrivesBus.requesting.Goals as goal
 
 -- no drive requests

@@ -1,6 +1,6 @@
 use Rattle.std.proofs.Common.{rules}
-use Rattle.buses.specs.Touches.{written}
+use Rattle.buses.specs.Touches.{one_written}
 use Rattle.buses.proofs.drives.DrivesBus.write.Goals as goal
 
 pub returns-in-Some-clause-touches : goal.returns-in-Some-clause-touches
-returns-in-Some-clause-touches c = written c.args.device c.args.byte (search rules)
+returns-in-Some-clause-touches c = one_written c.args.device c.args.byte (search rules) (search rules)

@@ -1,6 +1,5 @@
-use Rattle.std.proofs.Common.{refl, ap, rules}
-use Rattle.std.proofs.lemmas.Result.{on_err_weaker}
-use Rattle.queue.specs.Rows.{queued}
+use Rattle.std.proofs.Common.{refl, rules}
+use Rattle.bus.proofs.Touches.{becomes_same}
 use Rattle.queue.proofs.Extensions.{extended_same}
 use Rattle.instructions.specs.Instructions.{instruction}
 use Rattle.steps.proofs.Chains.{steps_split}
@@ -14,6 +13,7 @@ returns-in_err-unless_off g c =
       splits = steps_split instruction;
       denied = search rules;
       denied_trace = search rules;
+      touches = search (rules, becomes_same);
       same = search rules;
       extended = extended_same _;
     }
@@ -25,6 +25,7 @@ returns g c =
       splits = steps_split instruction;
       denied = search rules;
       denied_trace = search rules;
+      touches = c.run.ensures.touches;
       same = search rules;
       extended = c.run.ensures.extended;
     }
