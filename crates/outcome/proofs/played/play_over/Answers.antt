@@ -20,7 +20,7 @@ returns-clause-plays g c =
     let v = desk_of (λ s. core_boards s.words.now) g.B.Bus.devices c.play-ending.new.self in
     let w = desk_of (λ s. core_boards s.words.now) g.B.Bus.devices c.make-machine.result in
     let fresh = made (core_boards c.args.words.now) (g.B.Bus.devices c.args.bus) in
-    let new : w ≡ fresh = c.make-machine.ensures ∙ ap (λ (m : Store). made m (g.B.Bus.devices c.args.bus)) c.new.ensures.means in
+    let new : w ≡ fresh = c.make-machine.ensures.desk ∙ ap (λ (m : Store). made m (g.B.Bus.devices c.args.bus)) c.new.ensures.means in
     let from_new : (meaning : ℕ → Prog) → Plays meaning cap tape w q a v p → Plays meaning cap tape fresh q a v p =
     λ meaning. subst (λ (d : Desk). Plays meaning cap tape d q a v p) new in
     record {

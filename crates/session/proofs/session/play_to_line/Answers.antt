@@ -22,7 +22,7 @@ returns c =
     let w = desk_of (λ s. core_boards s.words.now) (λ b. silent) c.make-machine.result in
     let q = queued c.new-trace.result in
     let fresh = made (core_boards c.args.words.now) silent in
-    let new : w ≡ fresh = c.make-machine.ensures ∙ ap (λ (m : Store). made m silent) c.new.ensures.means in
+    let new : w ≡ fresh = c.make-machine.ensures.desk ∙ ap (λ (m : Store). made m silent) c.new.ensures.means in
     let pinned : c.play.new.trace.slots.now ≡ p ++ drop (length p) c.args.slots.now =
     slots_extended c.args.slots.now c.new-trace.result c.play.new.trace c.new-trace.ensures.slots c.new-trace.ensures.first c.play.ensures.extended in
     record {
