@@ -1,0 +1,103 @@
+-- What any number of touches make of a new teletype and of new drives.
+use Rattle.std.proofs.Common.{◌≡◌, ℕ, zero, suc, ◌+◌, ◌%◌, ◌^◌, ◌<◌, List, [], ◌∷◌, length, drop, set, get_or, replicate, refl, sym, ap, ap₂, ◌∙◌, subst, arith}
+use Rattle.std.proofs.Math.Nat.{mod-add-mod}
+use Rattle.std.proofs.Math.Numerals.{suc-eq-add-one}
+use Rattle.std.proofs.lemmas.List.Elements.{All-set, All-replicate, All-cons, All-nil, All-head, All-tail}
+use Rattle.std.proofs.lemmas.List.{length-set}
+use Rattle.std.specs.List.{All}
+use Rattle.queue.specs.declared.Queue.{Queue}
+use Rattle.queue.specs.Rows.{queued}
+use Rattle.model.specs.Buses.{counted}
+use Rattle.bus.specs.Touches.{Becomes, untouched, once_more}
+use Rattle.bus.specs.declared.usage.Usage.{Usage}
+use Rattle.bus.specs.Usages.{unused, once_written, once_commanded}
+use Rattle.buses.specs.Devices.{rest, new_drive, moved_to, half_sent, drive_read, drive_written, drive_commanded}
+use Rattle.buses.specs.Touches.{TeletypeTouched, by_read, by_write, by_command, DrivesTouched, one_read, one_written, one_commanded, TeletypeAfter, DriveAfter, DrivesAfter}
+use Rattle.buses.specs.declared.teletype.Teletype.{Teletype}
+use Rattle.buses.specs.declared.drives.Drive.{Drive}
+use Rattle.buses.specs.declared.drives.Drives.{Drives}
+
+-- what each touch keeps, any number of touches keep
+kept : {X : Type 0} {touched : X → X → Type 0} (P : X → Type 0) {a b : X} → ((x y : X) → P x → touched x y → P y) → P a → Becomes touched a b → P b
+kept P keeps p untouched = p
+kept P keeps p (once_more q t) = keeps _ _ (kept P keeps p q) t
+
+-- one more, counted
+count_more : (n m : ℕ) → n ≡ m % 2 ^ 32 → counted n ≡ (m + 1) % 2 ^ 32
+count_more n m e = ap counted e ∙ mod-add-mod m (2 ^ 32) 1
+
+-- ── The teletype ──
+rest_drop : (k : ℕ) (xs : List ℕ) → rest (drop k xs) ≡ drop (suc k) xs
+rest_drop zero [] = refl
+rest_drop zero (x ∷ xs) = refl
+rest_drop (suc k) [] = refl
+rest_drop (suc k) (x ∷ xs) = rest_drop k xs
+
+unread : (keys : Queue ℕ) (t : Teletype) (u : Usage) → u.reads ≡ t.usage.reads → TeletypeAfter keys t → TeletypeAfter keys (record t { usage = u })
+unread keys t u e p = record { reads = p.reads; count = e ∙ p.count; bytes = p.bytes; same = p.same; slots = p.slots }
+
+teletype_touched : (keys : Queue ℕ) (x y : Teletype) → TeletypeAfter keys x → TeletypeTouched x y → TeletypeAfter keys y
+teletype_touched keys x y p (by_read r) =
+    record {
+      reads = p.reads + 1;
+      count = ap (λ (u : Usage). u.reads) r.counted ∙ count_more x.usage.reads p.reads p.count;
+      bytes = r.bytes ∙ ap rest p.bytes ∙ rest_drop p.reads (queued keys) ∙ ap (λ k. drop k (queued keys)) (suc-eq-add-one p.reads);
+      same = record { loan = r.same.loan ∙ p.same.loan; size = r.same.size ∙ p.same.size };
+      slots = r.slots ∙ p.slots;
+    }
+teletype_touched keys x y p (by_write v e) = subst (TeletypeAfter keys) (sym e) (unread keys x (once_written v x.usage) refl p)
+teletype_touched keys x y p (by_command v e) = subst (TeletypeAfter keys) (sym e) (unread keys x (once_commanded v x.usage) refl p)
+
+new_teletype : (keys : Queue ℕ) (t : Teletype) → t.waiting ≡ keys → t.usage ≡ unused → TeletypeAfter keys t
+new_teletype keys t w u =
+    record {
+      reads = 0;
+      count = ap (λ (x : Usage). x.reads) u;
+      bytes = ap queued w;
+      same = record { loan = ap (λ (q : Queue ℕ). q.slots.ghost_name) w; size = ap (λ (q : Queue ℕ). length q.slots.now) w };
+      slots = ap (λ (q : Queue ℕ). q.slots.now) w;
+    }
+
+pub teletype_after : (keys : Queue ℕ) (a b : Teletype) → a.waiting ≡ keys → a.usage ≡ unused → Becomes TeletypeTouched a b → TeletypeAfter keys b
+teletype_after keys a b w u = kept (TeletypeAfter keys) (teletype_touched keys) (new_teletype keys a w u)
+
+-- ── The drives ──
+new_after : DriveAfter new_drive
+new_after = record { written = []; bytes = All-nil _; count = refl; latest = refl; position = refl; half = refl }
+
+read_after : (d : Drive) → DriveAfter d → DriveAfter (drive_read d)
+read_after d p = record { written = p.written; bytes = p.bytes; count = p.count; latest = p.latest; position = p.position; half = p.half }
+
+commanded_after : (v : ℕ) (d : Drive) → DriveAfter d → DriveAfter (drive_commanded v d)
+commanded_after v d p = record { written = p.written; bytes = p.bytes; count = p.count; latest = p.latest; position = p.position; half = p.half }
+
+written_after : (v : ℕ) → v < 256 → (d : Drive) → DriveAfter d → DriveAfter (drive_written v d)
+written_after v l d p =
+    record {
+      written = v ∷ p.written;
+      bytes = All-cons (λ x. x < 256) v p.written l p.bytes;
+      count = count_more d.usage.writes (length p.written) p.count ∙ ap (λ k. k % 2 ^ 32) (omega arith);
+      latest = refl;
+      position = ap₂ (λ h k. moved_to h k v) p.half p.position;
+      half = ap (λ h. half_sent h v) p.half;
+    }
+
+get_of_all : {X : Type 0} (P : X → Type 0) (xs : List X) (i : ℕ) (d : X) → P d → All P xs → P (get_or xs i d)
+get_of_all P [] i d p q = p
+get_of_all P (x ∷ xs) zero d p q = All-head P x xs q
+get_of_all P (x ∷ xs) (suc i) d p q = get_of_all P xs i d p (All-tail P x xs q)
+
+one_changed : (f : Drive → Drive) → ((d : Drive) → DriveAfter d → DriveAfter (f d)) → (ds : List Drive) (i : ℕ) → DrivesAfter ds → DrivesAfter (set ds i (f (get_or ds i new_drive)))
+one_changed f keeps ds i p =
+    let here = get_of_all DriveAfter ds i new_drive new_after p.each in
+    record { size = length-set ds i _ ∙ p.size; each = All-set DriveAfter ds i _ (keeps _ here) p.each }
+
+drives_touched : (x y : Drives) → DrivesAfter x.drives → DrivesTouched x y → DrivesAfter y.drives
+drives_touched x y p (one_read n i e) = subst DrivesAfter (sym e) (one_changed drive_read read_after x.drives _ p)
+drives_touched x y p (one_written n v i l e) = subst DrivesAfter (sym e) (one_changed (drive_written v) (written_after v l) x.drives _ p)
+drives_touched x y p (one_commanded n v i e) = subst DrivesAfter (sym e) (one_changed (drive_commanded v) (commanded_after v) x.drives _ p)
+
+pub drives_after : (a b : Drives) → a.drives ≡ replicate 8 new_drive → Becomes DrivesTouched a b → DrivesAfter b.drives
+drives_after a b e =
+    let start : DrivesAfter a.drives = subst DrivesAfter (sym e) (record { size = refl; each = All-replicate DriveAfter 8 new_drive new_after }) in
+    kept (λ (d : Drives). DrivesAfter d.drives) drives_touched start
