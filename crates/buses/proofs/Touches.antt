@@ -1,5 +1,5 @@
 -- What any number of touches make of a new teletype and of new drives.
-use Rattle.std.proofs.Common.{◌≡◌, ℕ, zero, suc, ◌+◌, ◌%◌, ◌^◌, ◌<◌, List, [], ◌∷◌, length, drop, set, get_or, replicate, refl, sym, ap, ap₂, ◌∙◌, subst, arith}
+use Rattle.std.proofs.Common.{rules, ◌≡◌, ◌*◌, Some, None, Option, ℕ, zero, suc, ◌+◌, ◌%◌, ◌^◌, ◌<◌, List, [], ◌∷◌, length, drop, set, get_or, replicate, refl, sym, ap, ◌∙◌, subst, arith}
 use Rattle.std.proofs.Math.Nat.{mod-add-mod}
 use Rattle.std.proofs.Math.Numerals.{suc-eq-add-one}
 use Rattle.std.proofs.lemmas.List.Elements.{All-set, All-replicate, All-cons, All-nil, All-head, All-tail}
@@ -11,7 +11,7 @@ use Rattle.model.specs.Buses.{counted}
 use Rattle.bus.specs.Touches.{Becomes, untouched, once_more}
 use Rattle.bus.specs.declared.usage.Usage.{Usage}
 use Rattle.bus.specs.Usages.{unused, once_written, once_commanded}
-use Rattle.buses.specs.Devices.{rest, new_drive, moved_to, half_sent, drive_read, drive_written, drive_commanded}
+use Rattle.buses.specs.Devices.{rest, new_drive, drive_read, drive_written, drive_commanded}
 use Rattle.buses.specs.Touches.{TeletypeTouched, by_read, by_write, by_command, DrivesTouched, one_read, one_written, one_commanded, TeletypeAfter, DriveAfter, DrivesAfter}
 use Rattle.buses.specs.declared.teletype.Teletype.{Teletype}
 use Rattle.buses.specs.declared.drives.Drive.{Drive}
@@ -63,24 +63,30 @@ teletype_after keys a b w u = kept (TeletypeAfter keys) (teletype_touched keys) 
 
 -- ── The drives ──
 new_after : DriveAfter new_drive
-new_after = record { written = []; bytes = All-nil _; count = refl; latest = refl; position = refl; half = refl }
+new_after = record { pairs = []; bytes = All-nil _; half = search rules; position = refl; latest = refl; count = refl }
 
 read_after : (d : Drive) → DriveAfter d → DriveAfter (drive_read d)
-read_after d p = record { written = p.written; bytes = p.bytes; count = p.count; latest = p.latest; position = p.position; half = p.half }
+read_after d p = record { pairs = p.pairs; bytes = p.bytes; half = p.half; position = p.position; latest = p.latest; count = p.count }
 
 commanded_after : (v : ℕ) (d : Drive) → DriveAfter d → DriveAfter (drive_commanded v d)
-commanded_after v d p = record { written = p.written; bytes = p.bytes; count = p.count; latest = p.latest; position = p.position; half = p.half }
+commanded_after v d p = record { pairs = p.pairs; bytes = p.bytes; half = p.half; position = p.position; latest = p.latest; count = p.count }
+
+-- a byte begins a pair or ends one
+sent_after : (v : ℕ) → v < 256 → (u : Usage) (k : ℕ) (h : Option ℕ) → DriveAfter (record { usage = u; position = k; high = h }) → DriveAfter (drive_written v (record { usage = u; position = k; high = h }))
+sent_after v l u k None p =
+    record { pairs = p.pairs; bytes = p.bytes; half = l; position = p.position; latest = refl; count = count_more u.writes (length p.pairs * 2) p.count }
+sent_after v l u k (Some h) p =
+    record {
+      pairs = (h, v) ∷ p.pairs;
+      bytes = All-cons (λ (pair : ℕ × ℕ). (pair.0 < 256) × (pair.1 < 256)) (h, v) p.pairs (p.half, l) p.bytes;
+      half = search rules;
+      position = refl;
+      latest = refl;
+      count = count_more u.writes (length p.pairs * 2 + 1) p.count ∙ ap (λ n. n % 2 ^ 32) (omega arith);
+    }
 
 written_after : (v : ℕ) → v < 256 → (d : Drive) → DriveAfter d → DriveAfter (drive_written v d)
-written_after v l d p =
-    record {
-      written = v ∷ p.written;
-      bytes = All-cons (λ x. x < 256) v p.written l p.bytes;
-      count = count_more d.usage.writes (length p.written) p.count ∙ ap (λ k. k % 2 ^ 32) (omega arith);
-      latest = refl;
-      position = ap₂ (λ h k. moved_to h k v) p.half p.position;
-      half = ap (λ h. half_sent h v) p.half;
-    }
+written_after v l d = sent_after v l d.usage d.position d.high
 
 get_of_all : {X : Type 0} (P : X → Type 0) (xs : List X) (i : ℕ) (d : X) → P d → All P xs → P (get_or xs i d)
 get_of_all P [] i d p q = p

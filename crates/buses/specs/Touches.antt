@@ -1,10 +1,10 @@
 -- What a teletype and drives may become when they are touched, once and any number of times.
-use Rattle.std.specs.Prelude.{◌≡◌, ℕ, ◌%◌, ◌^◌, ◌<◌, true, List, [], ◌∷◌, length, drop, None, Option}
+use Rattle.std.specs.Prelude.{◌≡◌, ℕ, ◌+◌, ◌*◌, ◌%◌, ◌^◌, ◌<◌, true, List, [], ◌∷◌, length, drop, Some, None, Option, IfSome}
 use Rattle.std.specs.List.{All}
 use Rattle.queue.specs.declared.Queue.{Queue}
 use Rattle.queue.specs.Rows.{queued, SameSlots}
 use Rattle.bus.specs.Usages.{once_read, once_written, once_commanded}
-use Rattle.buses.specs.Devices.{rest, moved_to, half_sent, drive_read, drive_written, drive_commanded, is_drive, drive_changed}
+use Rattle.buses.specs.Devices.{rest, drive_read, drive_written, drive_commanded, is_drive, drive_changed}
 use Rattle.buses.specs.declared.teletype.Teletype.{Teletype}
 use Rattle.buses.specs.declared.drives.Drive.{Drive}
 use Rattle.buses.specs.declared.drives.Drives.{Drives}
@@ -39,30 +39,31 @@ pub record TeletypeAfter (keys : Queue ℕ) (t : Teletype) : Type 0 where
   pub same : SameSlots keys t.waiting
   pub slots : t.waiting.slots.now ≡ keys.slots.now
 
--- The latest of the bytes written, the newest first; 0 for none.
-abbrev pub newest : List ℕ → ℕ
-newest [] = 0
-newest (v ∷ before) = v
+-- The position of a drive by the pairs of bytes written to it, each the high byte and the low one, the newest pair first.
+abbrev pub position_set : List (ℕ × ℕ) → ℕ
+position_set [] = 0
+position_set (pair ∷ before) = pair.0 * 256 + pair.1
 
--- The high byte of a pair half sent, after these bytes were written to a new drive, the newest first.
-abbrev pub half_after : List ℕ → Option ℕ
-half_after [] = None
-half_after (v ∷ before) = half_sent (half_after before) v
+-- The latest byte written to it, by the high byte of a pair half sent and the whole pairs before it; 0 for none.
+abbrev pub latest_sent : Option ℕ → List (ℕ × ℕ) → ℕ
+latest_sent (Some high) pairs = high
+latest_sent None [] = 0
+latest_sent None (pair ∷ before) = pair.1
 
--- The position that they moved it to.
-abbrev pub position_after : List ℕ → ℕ
-position_after [] = 0
-position_after (v ∷ before) = moved_to (half_after before) (position_after before) v
+-- How many bytes were written to it.
+abbrev pub bytes_sent : Option ℕ → List (ℕ × ℕ) → ℕ
+bytes_sent (Some high) pairs = length pairs * 2 + 1
+bytes_sent None pairs = length pairs * 2
 
--- A drive that was new, however it was touched since: the bytes written to it, the newest first, tell its latest data, its position and
--- the pair half sent. Writes are counted modulo 2^32.
+-- A drive that was new, however it was touched since: the bytes written to it are whole pairs and the high byte of a pair half sent, if
+-- there is one. Its position is that of the newest whole pair. Writes are counted modulo 2^32.
 pub record DriveAfter (d : Drive) : Type 0 where
-  pub written : List ℕ
-  pub bytes : All (λ v. v < 256) written
-  pub count : d.usage.writes ≡ length written % 2 ^ 32
-  pub latest : d.usage.latest ≡ newest written
-  pub position : d.position ≡ position_after written
-  pub half : d.high ≡ half_after written
+  pub pairs : List (ℕ × ℕ)
+  pub bytes : All (λ pair. (pair.0 < 256) × (pair.1 < 256)) pairs
+  pub half : IfSome d.high (λ high. high < 256)
+  pub position : d.position ≡ position_set pairs
+  pub latest : d.usage.latest ≡ latest_sent d.high pairs
+  pub count : d.usage.writes ≡ bytes_sent d.high pairs % 2 ^ 32
 
 -- The eight of them.
 pub record DrivesAfter (drives : List Drive) : Type 0 where

@@ -74,8 +74,8 @@ pub fn play_new<'w>(tape: &[u8], words: &'w mut [u16], trace: &mut Queue<'_, Rec
 
 /// The same on a machine with a teletype, for which the keys wait, and the eight drives; what these two show afterwards comes with it,
 /// and so does the queue: the oldest keys are gone, one for each read of the teletype, and the others wait; its slots hold what they held.
-/// The position of a drive, the pair half sent, and its latest data are what the bytes written to it, one after the other, make of a
-/// new drive. Reads and writes are counted modulo 2^32.
+/// A drive stands at the position that the last whole pair of bytes written to it says, or at 0, and its latest data is the last byte
+/// written, or 0. Reads and writes are counted modulo 2^32.
 pub fn play_devices<'w, 'k>(
     tape: &[u8],
     words: &'w mut [u16],
