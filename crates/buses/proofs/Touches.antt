@@ -10,7 +10,7 @@ use Rattle.queue.specs.Rows.{queued}
 use Rattle.model.specs.Buses.{counted}
 use Rattle.bus.specs.Touches.{Becomes, untouched, once_more}
 use Rattle.bus.specs.declared.usage.Usage.{Usage}
-use Rattle.bus.specs.Usages.{unused, once_written, once_commanded}
+use Rattle.bus.specs.Usages.{unused, once_read, once_written, once_commanded}
 use Rattle.buses.specs.Devices.{rest, new_drive, drive_read, drive_written, drive_commanded}
 use Rattle.buses.specs.Touches.{TeletypeTouched, by_read, by_write, by_command, DrivesTouched, one_read, one_written, one_commanded, TeletypeAfter, DriveAfter, DrivesAfter}
 use Rattle.buses.specs.declared.teletype.Teletype.{Teletype}
@@ -65,11 +65,9 @@ teletype_after keys a b w u = kept (TeletypeAfter keys) (teletype_touched keys) 
 new_after : DriveAfter new_drive
 new_after = record { pairs = []; bytes = All-nil _; half = search rules; position = refl; latest = refl; count = refl }
 
-read_after : (d : Drive) → DriveAfter d → DriveAfter (drive_read d)
-read_after d p = record { pairs = p.pairs; bytes = p.bytes; half = p.half; position = p.position; latest = p.latest; count = p.count }
-
-commanded_after : (v : ℕ) (d : Drive) → DriveAfter d → DriveAfter (drive_commanded v d)
-commanded_after v d p = record { pairs = p.pairs; bytes = p.bytes; half = p.half; position = p.position; latest = p.latest; count = p.count }
+used_after : (d : Drive) (u : Usage) → u.latest ≡ d.usage.latest → u.writes ≡ d.usage.writes → DriveAfter d → DriveAfter (record d { usage = u })
+used_after d u l w p =
+    record { pairs = p.pairs; bytes = p.bytes; half = p.half; position = p.position; latest = l ∙ p.latest; count = w ∙ p.count }
 
 -- a byte begins a pair or ends one
 sent_after : (v : ℕ) → v < 256 → (u : Usage) (k : ℕ) (h : Option ℕ) → DriveAfter (record { usage = u; position = k; high = h }) → DriveAfter (drive_written v (record { usage = u; position = k; high = h }))
@@ -99,9 +97,9 @@ one_changed f keeps ds i p =
     record { size = length-set ds i _ ∙ p.size; each = All-set DriveAfter ds i _ (keeps _ here) p.each }
 
 drives_touched : (x y : Drives) → DrivesAfter x.drives → DrivesTouched x y → DrivesAfter y.drives
-drives_touched x y p (one_read n i e) = subst DrivesAfter (sym e) (one_changed drive_read read_after x.drives _ p)
+drives_touched x y p (one_read n i e) = subst DrivesAfter (sym e) (one_changed drive_read (λ d. used_after d (once_read d.usage) refl refl) x.drives _ p)
 drives_touched x y p (one_written n v i l e) = subst DrivesAfter (sym e) (one_changed (drive_written v) (written_after v l) x.drives _ p)
-drives_touched x y p (one_commanded n v i e) = subst DrivesAfter (sym e) (one_changed (drive_commanded v) (commanded_after v) x.drives _ p)
+drives_touched x y p (one_commanded n v i e) = subst DrivesAfter (sym e) (one_changed (drive_commanded v) (λ d. used_after d (once_commanded v d.usage) refl refl) x.drives _ p)
 
 pub drives_after : (a b : Drives) → a.drives ≡ replicate 8 new_drive → Becomes DrivesTouched a b → DrivesAfter b.drives
 drives_after a b e =
