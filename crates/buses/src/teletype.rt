@@ -3,7 +3,7 @@ ghost use Rattle.queue.specs.Rows.{queued, SameSlots};
 ghost use Rattle.bus.specs.Devices.{Reads, Writes, Commands};
 ghost use Rattle.bus.specs.Usages.{unused, once_read};
 ghost use Rattle.buses.specs.Devices.{oldest, rest, teletype};
-ghost use Rattle.buses.specs.Touches.{TeletypeTouched, TeletypeRead};
+ghost use Rattle.buses.specs.Touches.{TeletypeTouched};
 
 use bus::meaning::Bus;
 use bus::usage::Usage;

@@ -1,1 +1,2 @@
 mod Joins
+pub mod Touches

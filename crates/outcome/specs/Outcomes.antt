@@ -11,6 +11,7 @@ use Rattle.bus.specs.Devices.{silent}
 use Rattle.joined.specs.Parts.{joined}
 use Rattle.bus.specs.Usages.{unused}
 use Rattle.buses.specs.Devices.{new_drive, teletype, drive_bus}
+use Rattle.buses.specs.Touches.{TeletypeAfter, DrivesAfter}
 use Rattle.instructions.specs.Instructions.{instruction}
 use Rattle.tape.specs.declared.orders.TapeFault.{TapeFault}
 use Rattle.console.specs.Tape.{played_by}
@@ -49,8 +50,11 @@ PlaysTo tape words t outcome u = PlaysOn silent (capacity t) tape words (queued 
 abbrev pub new_devices : List ℕ → Bus
 new_devices keys = joined (teletype keys unused) (drive_bus (replicate 8 new_drive))
 
--- The same over these devices, of which then this is shown, and for which these bytes wait.
-pub record PlaysOver (tape words keys : List ℕ) (t : Queue Record) (outcome : DevicesOutcome) (u : Queue Record) : Type 0 where
+-- The same over these devices, of which then this is shown, and for which these bytes wait. The teletype lay over the queue of the keys,
+-- and the drives were new; since then they were read, written and commanded, and nothing else was done to them.
+pub record PlaysOver (tape words : List ℕ) (keys : Queue ℕ) (t : Queue Record) (outcome : DevicesOutcome) (u : Queue Record) : Type 0 where
   pub bus : Bus
-  pub plays : PlaysOn (new_devices keys) (capacity t) tape words (queued t) (left_by outcome.outcome u) bus
+  pub plays : PlaysOn (new_devices (queued keys)) (capacity t) tape words (queued t) (left_by outcome.outcome u) bus
   pub devices : DevicesShown outcome.devices (queued outcome.keys) bus
+  pub teletype_after : TeletypeAfter keys (record { waiting = outcome.keys; usage = devices.usage })
+  pub drives_after : DrivesAfter devices.drives

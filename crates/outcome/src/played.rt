@@ -1,4 +1,5 @@
 ghost use Rattle.std.specs.Prelude.{◌≡◌};
+ghost use Rattle.bus.specs.Touches.{Becomes};
 ghost use Rattle.queue.specs.Rows.{queued, capacity, SameSlots, Extended};
 ghost use Rattle.outcome.specs.Outcomes.{PlaysOn, PlaysTo, PlaysOver, left_by};
 
@@ -31,7 +32,8 @@ pub struct DevicesOutcome<'w, 'k> {
     pub keys: Queue<'k, u8>,
 }
 
-/// Plays a tape on a new machine with core boards of the words and a bus. The bus comes back as the tape leaves it.
+/// Plays a tape on a new machine with core boards of the words and a bus. The bus comes back as the tape leaves it: reads, writes and
+/// commands made it so.
 fn play_over<'w, B: Bus>(
     bus: B,
     tape: &[u8],
@@ -39,6 +41,7 @@ fn play_over<'w, B: Bus>(
     trace: &mut Queue<'_, Record>,
 ) -> (Outcome<'w>, B)
     ensures plays { PlaysOn (B.Bus.devices bus) (capacity trace.old) tape.now words.old (queued trace.old) (left_by result.0 trace.new) (B.Bus.devices result.1) }
+    ensures touches { Becomes B.Bus.touched bus result.1 }
     ensures extended { Extended trace.old trace.new }
     ensures same { SameSlots trace.old trace.new }
 {
@@ -70,14 +73,16 @@ pub fn play_new<'w>(tape: &[u8], words: &'w mut [u16], trace: &mut Queue<'_, Rec
 }
 
 /// The same on a machine with a teletype, for which the keys wait, and the eight drives; what these two show afterwards comes with it,
-/// and so does the queue, with the bytes that still wait.
+/// and so does the queue: the oldest keys are gone, one for each read of the teletype, and the others wait; its slots hold what they held.
+/// A drive stands at the position that the last whole pair of bytes written to it says, or at 0, and its latest data is the last byte
+/// written, or 0. Reads and writes are counted modulo 2^32.
 pub fn play_devices<'w, 'k>(
     tape: &[u8],
     words: &'w mut [u16],
     keys: Queue<'k, u8>,
     trace: &mut Queue<'_, Record>,
 ) -> DevicesOutcome<'w, 'k>
-    ensures plays { PlaysOver tape.now words.old (queued keys.entry) trace.old result trace.new }
+    ensures plays { PlaysOver tape.now words.old keys.entry trace.old result trace.new }
     ensures extended { Extended trace.old trace.new }
     ensures same { SameSlots trace.old trace.new }
 {

@@ -5,6 +5,7 @@ use Rattle.model.specs.Stores.{Store}
 use Rattle.model.specs.Console.{Desk, made}
 use Rattle.model.specs.Tapes.{Plays}
 use Rattle.store.specs.Boards.{core_boards}
+use Rattle.bus.proofs.Touches.{becomes_same, becomes_then}
 use Rattle.console.specs.Keys.{number_of}
 use Rattle.console.specs.View.{desk_of}
 use Rattle.console.specs.Tape.{played_by}
@@ -30,3 +31,6 @@ returns-clause-plays g c =
       store = record { store = search rules; size = c.into_words-words.ensures.within };
       bus = search rules;
     }
+
+pub returns-clause-touches : goal.returns-clause-touches
+returns-clause-touches g c = becomes_then (becomes_same c.make-machine.ensures.bus) (becomes_then c.play-ending.ensures.touches (becomes_same (search rules)))
