@@ -1,10 +1,10 @@
 -- Bytes that stand behind their length, and trials.
-use Rattle.std.proofs.Common.{◌≡◌, ℕ, ◌<◌, ◌+◌, ◌++◌, ◌^◌, ◌≢◌, List, ◌∷◌, length, get_or, take, drop, arith, ap, ap₂, ◌∙◌, sym, length-append, length-take, append_assoc}
+use Rattle.std.proofs.Common.{◌≡◌, ℕ, ◌<◌, ◌+◌, ◌++◌, ◌^◌, List, ◌∷◌, length, get_or, take, drop, arith, ap, ap₂, ◌∙◌, sym, length-append, length-take, append_assoc}
 use Rattle.std.specs.Int.{w32, to_be_bytes, from_be_bytes}
 use Rattle.std.proofs.lemmas.List.{places, take-append-drop}
 use Rattle.std.proofs.lemmas.Nat.{be_bytes_4, from_be_bytes-to_be_bytes_4}
 use Rattle.std.proofs.Math.Seq.{drop-append_seam}
-use Rattle.outcome.specs.Trials.{Written, silent_trial, devices_trial, behind_length, BeginsWithBytes, HasNoBytes, BeginsWithTrial, HasNoTrial}
+use Rattle.outcome.specs.Trials.{silent_trial, devices_trial, behind_length, BeginsWithBytes, HasNoBytes, HasNoTrial}
 
 -- The number in the first four bytes is their length.
 length_read : (input bytes after : List ℕ) → BeginsWithBytes input bytes after → from_be_bytes w32 (take 4 input) ≡ length bytes

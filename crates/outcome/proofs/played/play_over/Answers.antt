@@ -1,4 +1,4 @@
-use Rattle.std.proofs.Common.{rules, ◌≡◌, ℕ, List, ap, ◌∙◌, subst}
+use Rattle.std.proofs.Common.{rules, ◌≡◌, ℕ, ap, ◌∙◌, subst}
 use Rattle.queue.specs.Rows.{queued, capacity}
 use Rattle.model.specs.Effects.{Prog}
 use Rattle.model.specs.Stores.{Store}

@@ -1,6 +1,5 @@
-use Rattle.std.proofs.Common.{◌≡◌, ℕ, List, ◌++◌, take, replicate, refl, ap, ap₂, ◌∙◌, subst}
+use Rattle.std.proofs.Common.{◌≡◌, ℕ, List, ◌++◌, take, replicate, ap, ap₂, ◌∙◌, subst}
 use Rattle.queue.specs.Rows.{queued, capacity}
-use Rattle.model.specs.declared.Record.{Record}
 use Rattle.outcome.specs.Outcomes.{left_by, PlaysOn, new_devices}
 use Rattle.outcome.specs.PeripheralTexts.{device_line_text}
 use Rattle.outcome.specs.Trials.{key_limit}

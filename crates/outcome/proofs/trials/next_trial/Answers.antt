@@ -1,4 +1,4 @@
-use Rattle.std.proofs.Common.{rules, ◌≡◌, ℕ, List, ◌∷◌}
+use Rattle.std.proofs.Common.{rules, ◌≡◌, ◌∷◌}
 use Rattle.outcome.specs.Trials.{HasNoBytes, HasNoTrial, BeginsWithBytes}
 use Rattle.outcome.proofs.TrialBytes.{keys_alone}
 use Rattle.outcome.proofs.trials.next_trial.Goals as goal
