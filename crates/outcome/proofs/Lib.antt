@@ -4,3 +4,4 @@ mod Sixteen
 mod TrialBytes
 mod Lines
 mod ReadBack
+mod Pages

@@ -2,6 +2,7 @@ pub mod PeripheralTexts
 pub mod Peripherals
 pub mod Digests
 pub mod Outcomes
+pub mod PanelTexts
 pub mod ReadBack
 pub mod Shown
 pub mod Texts

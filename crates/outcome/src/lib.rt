@@ -5,6 +5,7 @@
 pub mod digest;
 pub mod hex;
 pub mod line;
+pub mod panel;
 pub mod peripherals;
 pub mod played;
 pub mod read_back;
