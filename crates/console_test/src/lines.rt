@@ -14,7 +14,8 @@ fn all_leave(rt: &impl Abort, cases: &[Case<'_>]) {
     for case in cases {
         let mut words = [0; 2048];
         let mut slots = [UNUSED; 4];
-        assert_eq!(rt; play_to_line(case.tape, &mut words, &mut slots), case.line);
+        let played = play_to_line(case.tape, &mut words, &mut slots);
+        assert_eq!(rt; played.line, case.line);
     }
 }
 
