@@ -1,9 +1,9 @@
 -- What any number of touches make of two buses joined.
+use Rattle.std.proofs.Common.{inl, inr}
 use Rattle.bus.specs.Touches.{Becomes, untouched, once_more}
 use Rattle.bus.proofs.Touches.{becomes_same, becomes_then}
 use Rattle.joined.specs.Parts.{OneTouched}
 use Rattle.joined.specs.declared.JoinedBus.{JoinedBus}
-use Rattle.std.proofs.Common.{inl, inr}
 
 -- one touch of the two, after any number of each
 part_touched :

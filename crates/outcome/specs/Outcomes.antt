@@ -50,8 +50,8 @@ PlaysTo tape words t outcome u = PlaysOn silent (capacity t) tape words (queued 
 abbrev pub new_devices : List ℕ → Bus
 new_devices keys = joined (teletype keys unused) (drive_bus (replicate 8 new_drive))
 
--- The same over these devices, of which then this is shown, and for which these bytes wait. The teletype lay over the queue of the keys,
--- and the drives were new; since then they were read, written and commanded, and nothing else was done to them.
+-- The same over these devices, of which then this is shown, and for which these bytes wait: those that reads left of the queue of the
+-- keys. The drives stand where the bytes written to them moved them.
 pub record PlaysOver (tape words : List ℕ) (keys : Queue ℕ) (t : Queue Record) (outcome : DevicesOutcome) (u : Queue Record) : Type 0 where
   pub bus : Bus
   pub plays : PlaysOn (new_devices (queued keys)) (capacity t) tape words (queued t) (left_by outcome.outcome u) bus

@@ -1,6 +1,7 @@
 ghost use Rattle.std.specs.Prelude.{◌≡◌};
 ghost use Rattle.bus.specs.Touches.{Becomes};
 ghost use Rattle.queue.specs.Rows.{queued, capacity, SameSlots, Extended};
+ghost use Rattle.outcome.specs.Peripherals.{shown_of};
 ghost use Rattle.outcome.specs.Outcomes.{PlaysOn, PlaysTo, PlaysOver, left_by};
 
 use crate::peripherals::{Devices, devices_of};
@@ -72,6 +73,24 @@ pub fn play_new<'w>(tape: &[u8], words: &'w mut [u16], trace: &mut Queue<'_, Rec
     outcome
 }
 
+/// An outcome, with what the devices show and the queue of the teletype.
+fn with_devices<'w, 'k>(
+    outcome: Outcome<'w>,
+    bus: JoinedBus<Teletype<'k>, Drives>,
+) -> DevicesOutcome<'w, 'k>
+    ensures outcome { result.outcome ≡ outcome.entry }
+    ensures devices { result.devices ≡ shown_of (queued bus.entry.first.waiting) bus.entry.first.usage bus.entry.second.drives }
+    ensures keys { result.keys ≡ bus.entry.first.waiting }
+{
+    let devices = devices_of(&bus);
+    let (teletype, _drives) = bus.into_parts();
+    DevicesOutcome {
+        outcome,
+        devices,
+        keys: teletype.into_queue(),
+    }
+}
+
 /// The same on a machine with a teletype, for which the keys wait, and the eight drives; what these two show afterwards comes with it,
 /// and so does the queue: the oldest keys are gone, one for each read of the teletype, and the others wait; its slots hold what they held.
 /// A drive stands at the position that the last whole pair of bytes written to it says, or at 0, and its latest data is the last byte
@@ -88,11 +107,5 @@ pub fn play_devices<'w, 'k>(
 {
     let bus = JoinedBus::new(Teletype::new(keys), Drives::new());
     let (outcome, bus) = play_over(bus, tape, words, trace);
-    let devices = devices_of(&bus);
-    let (teletype, _drives) = bus.into_parts();
-    DevicesOutcome {
-        outcome,
-        devices,
-        keys: teletype.into_queue(),
-    }
+    with_devices(outcome, bus)
 }
