@@ -71,27 +71,48 @@ fn endings(rt: HostRuntime) -> Result<(), Fail> {
     Ok(())
 }
 
+/// Some halfwords of a store, and the rows that show them.
+#[derive(Clone, Copy)]
+struct Rows {
+    words: &'static [u16],
+    rows: &'static str,
+}
+
+/// Rows of zeros are left out, and the last row may be a short one.
+const STORES: [Rows; 6] = [
+    Rows {
+        words: &[],
+        rows: "",
+    },
+    Rows {
+        words: &[0, 0, 0],
+        rows: "",
+    },
+    Rows {
+        words: &[0, 0x12AB, 0],
+        rows: "00000: 0000 12AB 0000\n",
+    },
+    Rows {
+        words: &[0, 0, 0, 0, 0, 0, 0, 0, 1],
+        rows: "00010: 0001\n",
+    },
+    Rows {
+        words: &[1, 0, 0, 0, 0, 0, 0, 0, 0, 0, 0, 0, 0, 0, 0, 0, 0, 0xFFFF],
+        rows: "00000: 0001 0000 0000 0000 0000 0000 0000 0000\n00020: 0000 FFFF\n",
+    },
+    Rows {
+        words: &[0, 0, 0, 0, 0, 0, 0, 2, 0, 0, 0],
+        rows: "00000: 0000 0000 0000 0000 0000 0000 0000 0002\n",
+    },
+];
+
 #[test]
 fn rows_of_the_store(rt: HostRuntime) -> Result<(), Fail> {
-    let cases: [(&[u16], &str); 6] = [
-        (&[], ""),
-        (&[0, 0, 0], ""),
-        (&[0, 0x12AB, 0], "00000: 0000 12AB 0000\n"),
-        (&[0, 0, 0, 0, 0, 0, 0, 0, 1], "00010: 0001\n"),
-        (
-            &[1, 0, 0, 0, 0, 0, 0, 0, 0, 0, 0, 0, 0, 0, 0, 0, 0, 0xFFFF],
-            "00000: 0001 0000 0000 0000 0000 0000 0000 0000\n00020: 0000 FFFF\n",
-        ),
-        (
-            &[0, 0, 0, 0, 0, 0, 0, 2, 0, 0, 0],
-            "00000: 0000 0000 0000 0000 0000 0000 0000 0002\n",
-        ),
-    ];
-    for (words, rows) in &cases {
+    for case in &STORES {
         let mut text = Vec::new(rt.alloc());
-        add_store(&mut text, words)?;
+        add_store(&mut text, case.words)?;
         let shown = text.strip_prefix(b"Store, where it is not zero\n");
-        assert_eq!(rt; shown, Some(rows.as_bytes()));
+        assert_eq!(rt; shown, Some(case.rows.as_bytes()));
     }
     Ok(())
 }
