@@ -1,8 +1,9 @@
 -- The trials that are read one after the other from an input: how each is written, and the line that it leaves.
-use Rattle.std.specs.Prelude.{◌≡◌, ℕ, ◌<◌, ◌^◌, List, [], ◌∷◌, ◌++◌, length, take, replicate}
+use Rattle.std.specs.Prelude.{◌≡◌, ℕ, ◌<◌, ◌%◌, ◌^◌, List, [], ◌∷◌, ◌++◌, length, take, drop, replicate}
 use Rattle.std.specs.Int.{to_be_bytes, w32}
 use Rattle.model.specs.Buses.{Bus}
 use Rattle.bus.specs.Devices.{silent}
+use Rattle.buses.specs.Touches.{DrivesAfter}
 use Rattle.session.specs.Sessions.{store_halfwords, trace_records}
 use Rattle.outcome.specs.declared.peripherals.Devices.{Devices}
 use Rattle.outcome.specs.declared.trials.Trial.{Trial}
@@ -71,14 +72,20 @@ pub record SilentLine (tape line : List ℕ) : Type 0 where
   pub plays : PlaysOn silent trace_records tape (replicate store_halfwords 0) [] left silent
   pub text : line ≡ line_text left.ending left.shown left.trace (digest_from start left.words)
 
--- The same over a teletype, for which the first of the keys wait, and the drives, with what these then show.
+-- The same over a teletype, for which the first of the keys wait, and the drives, with what these then show: the oldest keys are gone,
+-- one for each read of the teletype, which counts reads modulo 2^32, and the others wait. The drives stand where the bytes written to
+-- them moved them.
 pub record DevicesLine (keys tape line : List ℕ) : Type 0 where
   pub left : Left
   pub bus : Bus
   pub devices : Devices
   pub waiting : List ℕ
+  pub reads : ℕ
   pub plays : PlaysOn (new_devices (take key_limit keys)) trace_records tape (replicate store_halfwords 0) [] left bus
   pub shows : DevicesShown devices waiting bus
+  pub count : devices.teletype.reads ≡ reads % 2 ^ 32
+  pub bytes : waiting ≡ drop reads (take key_limit keys)
+  pub drives_after : DrivesAfter shows.drives
   pub text : line ≡ device_line_text left.ending left.shown left.trace (digest_from start left.words) devices
 
 -- The line of a trial.

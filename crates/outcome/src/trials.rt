@@ -102,7 +102,8 @@ fn devices_line(heap: Global, keys: &[u8], tape: &[u8]) -> Result<Vec<u8>, Alloc
 }
 
 /// The line that a trial leaves. Its machine is new: core boards of 32,768 words, all 0, and a trace of 64 records; of the keys the
-/// first 64 wait. The only error is want of memory.
+/// first 64 wait. The line counts the keys that no read of the teletype took, and has each drive where the bytes written to it moved it.
+/// The only error is want of memory.
 pub fn trial_line(heap: Global, trial: Trial<'_>) -> Result<Vec<u8>, AllocError>
     ensures { IfOk result (λ line. LineOf (trial_of trial.entry) line.items) }
 {

@@ -1,5 +1,6 @@
-use Rattle.std.proofs.Common.{◌≡◌, ℕ, List, ◌++◌, take, replicate, ap, ap₂, ◌∙◌, subst}
+use Rattle.std.proofs.Common.{◌≡◌, ℕ, List, ◌++◌, take, drop, replicate, ap, ap₂, ◌∙◌, subst}
 use Rattle.queue.specs.Rows.{queued, capacity}
+use Rattle.outcome.specs.declared.peripherals.Devices.{Devices}
 use Rattle.outcome.specs.Outcomes.{left_by, PlaysOn, new_devices}
 use Rattle.outcome.specs.PeripheralTexts.{device_line_text}
 use Rattle.outcome.specs.Trials.{key_limit}
@@ -20,10 +21,14 @@ returns c =
       bus = played.bus;
       devices = devices;
       waiting = queued c.play_devices-played.result.keys;
+      reads = played.teletype_after.reads;
       plays =
           plays_anew (new_devices (take key_limit c.args.keys.now)) played.bus c.args.tape.now words (queued before) (capacity before) left zero c.new-trace.ensures.empty c.new-trace.ensures.room
           (subst (λ (l : List ℕ). PlaysOn (new_devices l) (capacity before) c.args.tape.now words (queued before) left played.bus) keys played.plays);
       shows = played.devices;
+      count = ap (λ (d : Devices). d.teletype.reads) played.devices.shows ∙ played.teletype_after.count;
+      bytes = played.teletype_after.bytes ∙ ap (drop played.teletype_after.reads) keys;
+      drives_after = played.drives_after;
       text =
           c.in_ok-add_device_line.ensures
           ∙ ap₂ (λ (l : List ℕ) (digest : ℕ). l ++ device_line_text left.ending left.shown left.trace digest devices) c.new-line.ensures.items c.store_digest-digest.ensures;
