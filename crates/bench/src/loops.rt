@@ -13,11 +13,9 @@ use bus::silent::SilentBus;
 use console::machine::Machine;
 use model::{Denial, Reason, Record};
 use queue::Queue;
+use steps::run::MOST_STEPS;
 use store::boards::CoreBoards;
 use store::meaning::Store;
-
-/// The greatest count of the console's run.
-const MOST: u32 = 1_000_000;
 
 /// How the loop runs.
 #[derive(Clone, Copy)]
@@ -83,7 +81,7 @@ pub fn run_on<S: Store, B: Bus>(
 {
     let mut made = 0;
     while made < count {
-        let run = machine.run((count - made).min(MOST), trace)?;
+        let run = machine.run((count - made).min(MOST_STEPS), trace)?;
         made += run.steps;
         if run.reason != Reason::Counted {
             return Ok(made);

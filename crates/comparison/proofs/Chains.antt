@@ -22,7 +22,7 @@ use Rattle.model.proofs.Whole.{isolation}
 use Rattle.comparison.specs.declared.calls.Call.{Call}
 use Rattle.comparison.specs.declared.calls.Call.TheVariants.{TurnKey, Initialise, Examine, Deposit, Set, Show, Step, Run, Play}
 use Rattle.comparison.specs.declared.calls.Continued.{Continued as Asking}
-use Rattle.comparison.specs.Lists.{Performs, PerformsAll, AskedAs, AllAsked, is_interrupt, tells_interrupt, ends_interrupted, Reports, FollowedOne, with_added, with_all_added, Noted, after_all, Tells, Followed, Given, Left, Gone, Compared}
+use Rattle.comparison.specs.Lists.{Performs, PerformsAll, AskedAs, AllAsked, is_interrupt, tells_interrupt, ends_interrupted, Reports, FollowedOne, with_added, with_all_added, after_all, Tells, Followed, Given, Left, Gone, Compared}
 
 -- ── Histories ──
 performs_none : (size : ℕ) (w : Desk) (q : List Record) → PerformsAll size [] w q w q
@@ -144,6 +144,12 @@ ends_push ys x =
 
 ends_with : (ys zs : List StepAnswer) (x y : StepAnswer) → zs ≡ ys ++ x ∷ [] → Some x ≡ Some y → ends_interrupted zs ≡ is_interrupt y
 ends_with ys zs x y ez er = ap ends_interrupted ez ∙ (ends_push ys x ∙ ap is_interrupt (same_Some x y er))
+
+-- What is known of the program after one more call: an answer more, unless there was an interrupt.
+abbrev pub Noted : Option StepAnswer → List StepAnswer → Bool → List StepAnswer → Type 0
+Noted None ys b zs = zs ≡ ys
+Noted (Some s) ys true zs = zs ≡ ys
+Noted (Some s) ys false zs = zs ≡ ys ++ s ∷ []
 
 -- What is told of a course and of one more call is told of both.
 tells_more :

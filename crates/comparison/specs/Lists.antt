@@ -93,12 +93,6 @@ tells_interrupt (Some s) = is_interrupt s
 abbrev pub ends_interrupted : List StepAnswer → Bool
 ends_interrupted ys = tells_interrupt (slice_get ys (length ys - 1))
 
--- What is known of the program after one more call: an answer more, unless there was an interrupt.
-abbrev pub Noted : Option StepAnswer → List StepAnswer → Bool → List StepAnswer → Type 0
-Noted None ys b zs = zs ≡ ys
-Noted (Some s) ys true zs = zs ≡ ys
-Noted (Some s) ys false zs = zs ≡ ys ++ s ∷ []
-
 -- The machine after all calls of a list.
 abbrev pub after_all : List Continued → Desk → Desk
 after_all [] w = w

@@ -1,3 +1,4 @@
+ghost use Rattle.bus.specs.Touches.{Becomes};
 ghost use Rattle.queue.specs.Rows.{queued, capacity, SameSlots, Extended};
 ghost use Rattle.console.specs.View.{desk_of};
 ghost use Rattle.comparison.specs.Lists.{FollowedOne, Followed};
@@ -13,12 +14,14 @@ use store::meaning::Store;
 
 // Arm by arm, not through a Call: the proof of one arm for all but the step did not close.
 /// Makes a call that is asked; tells the answer of an accepted step.
+#[tactic(auto, using(bus::proofs::Touches::becomes_same))]
 fn follow_one<S: Store, B: Bus>(
     machine: &mut Machine<S, B>,
     asking: Continued,
     trace: &mut Queue<'_, Record>,
 ) -> Option<StepAnswer>
     ensures does { FollowedOne (capacity trace.old) asking (desk_of S.Store.meaning B.Bus.devices machine.old) (queued trace.old) result (desk_of S.Store.meaning B.Bus.devices machine.new) (queued trace.new) }
+    ensures touches { Becomes B.Bus.touched machine.old.core.bus machine.new.core.bus }
     ensures same { SameSlots trace.old trace.new }
     ensures extended { Extended trace.old trace.new }
 {
@@ -50,6 +53,7 @@ pub(crate) fn follow<S: Store, B: Bus>(
     trace: &mut Queue<'_, Record>,
 ) -> Answered
     ensures does { Followed (capacity trace.old) asked.entry.list.now (desk_of S.Store.meaning B.Bus.devices machine.old) (queued trace.old) result.answers.items (desk_of S.Store.meaning B.Bus.devices machine.new) (queued trace.new) }
+    ensures touches { Becomes B.Bus.touched machine.old.core.bus machine.new.core.bus }
     ensures same { SameSlots trace.old trace.new }
     ensures extended { Extended trace.old trace.new }
 {

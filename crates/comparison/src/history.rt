@@ -1,3 +1,4 @@
+ghost use Rattle.bus.specs.Touches.{Becomes};
 ghost use Rattle.queue.specs.Rows.{queued, capacity, SameSlots, Extended};
 ghost use Rattle.console.specs.View.{desk_of};
 ghost use Rattle.comparison.specs.Lists.{Performs, PerformsAll};
@@ -10,12 +11,14 @@ use queue::Queue;
 use store::meaning::Store;
 
 /// Makes a call of a history, whatever its answer.
+#[tactic(auto, using(bus::proofs::Touches::becomes_same))]
 fn perform<S: Store, B: Bus>(
     machine: &mut Machine<S, B>,
     call: Call<'_>,
     trace: &mut Queue<'_, Record>,
 )
     ensures does { Performs (capacity trace.old) call.entry (desk_of S.Store.meaning B.Bus.devices machine.old) (queued trace.old) (desk_of S.Store.meaning B.Bus.devices machine.new) (queued trace.new) }
+    ensures touches { Becomes B.Bus.touched machine.old.core.bus machine.new.core.bus }
     ensures same { SameSlots trace.old trace.new }
     ensures extended { Extended trace.old trace.new }
 {
@@ -57,6 +60,7 @@ pub(crate) fn perform_all<S: Store, B: Bus>(
     trace: &mut Queue<'_, Record>,
 )
     ensures does { PerformsAll (capacity trace.old) calls.now (desk_of S.Store.meaning B.Bus.devices machine.old) (queued trace.old) (desk_of S.Store.meaning B.Bus.devices machine.new) (queued trace.new) }
+    ensures touches { Becomes B.Bus.touched machine.old.core.bus machine.new.core.bus }
     ensures same { SameSlots trace.old trace.new }
     ensures extended { Extended trace.old trace.new }
 {

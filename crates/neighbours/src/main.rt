@@ -55,6 +55,13 @@ const OTHER_LIST: [Continued; 13] = [
     Continued::Step,
 ];
 
+/// The same, but E is set in the segment, so that nothing is fetched from it.
+const NO_EXECUTION: [Call<'static>; 3] = [
+    Call::Set(Item::Segment(0), 0x0000_1090),
+    Call::Set(Item::Status, 0x0000_05f0),
+    Call::Set(Item::Location, 0),
+];
+
 /// Prints the answers of a side, each in a line.
 fn print_answers(rt: &HostRuntime, store: &str, answered: &Answered) -> io::Result<()> {
     for answer in &answered.answers {
@@ -72,7 +79,18 @@ fn print_marks(rt: &HostRuntime, store: &str, marks: Marks) -> io::Result<()> {
     )
 }
 
-fn main(rt: HostRuntime) -> io::Result<()> {
+/// Prints how far the answers of two sides agree, and which of them end with an interrupt.
+fn print_agreement(rt: &HostRuntime, one: &Answered, other: &Answered) -> io::Result<()> {
+    println!(rt;
+        "agreed on {} answers; interrupts {} {}",
+        agreed(&one.answers, &other.answers),
+        one.interrupted(),
+        other.interrupted()
+    )
+}
+
+/// The program beside a neighbour on each of two machines that look alike to it.
+fn print_alike(rt: &HostRuntime) -> io::Result<()> {
     let heap = rt.alloc();
     let mut words = vec![in heap; 0u16; 8_192]?;
     let mut bytes = vec![in heap; 0u8; 16_384]?;
@@ -95,14 +113,40 @@ fn main(rt: HostRuntime) -> io::Result<()> {
     };
     let report = compare(heap, one, &mut slots, other, &mut slots2)?;
     let (one, other) = (report.one, report.other);
-    print_answers(&rt, "core boards", &one.answered)?;
-    print_answers(&rt, "byte image", &other.answered)?;
-    println!(rt;
-        "agreed on {} answers; interrupts {} {}",
-        agreed(&one.answered.answers, &other.answered.answers),
-        one.answered.interrupted(),
-        other.answered.interrupted()
-    )?;
-    print_marks(&rt, "core boards", marks_of(one.machine))?;
-    print_marks(&rt, "byte image", marks_of(other.machine))
+    print_answers(rt, "core boards", &one.answered)?;
+    print_answers(rt, "byte image", &other.answered)?;
+    print_agreement(rt, &one.answered, &other.answered)?;
+    print_marks(rt, "core boards", marks_of(one.machine))?;
+    print_marks(rt, "byte image", marks_of(other.machine))
+}
+
+/// The program on two machines that do not look alike to it: in the other its first fetch is refused.
+fn print_unlike(rt: &HostRuntime) -> io::Result<()> {
+    let heap = rt.alloc();
+    let mut words = vec![in heap; 0u16; 8_192]?;
+    let mut bytes = vec![in heap; 0u8; 16_384]?;
+    let mut slots = [BLANK; 4];
+    let mut slots2 = [BLANK; 4];
+    let past = history(heap, &NEIGHBOUR, &BEGINNING)?;
+    let past2 = history(heap, &NEIGHBOUR, &NO_EXECUTION)?;
+    let one = Side {
+        store: CoreBoards::new(&mut words),
+        bus: SilentBus {},
+        past: &past,
+        list: &LIST,
+    };
+    let other = Side {
+        store: ByteImage::new(&mut bytes),
+        bus: SilentBus {},
+        past: &past2,
+        list: &LIST,
+    };
+    let report = compare(heap, one, &mut slots, other, &mut slots2)?;
+    print!(rt; "beside a segment without execution: ")?;
+    print_agreement(rt, &report.one.answered, &report.other.answered)
+}
+
+fn main(rt: HostRuntime) -> io::Result<()> {
+    print_alike(&rt)?;
+    print_unlike(&rt)
 }

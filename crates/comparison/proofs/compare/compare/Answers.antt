@@ -13,4 +13,4 @@ pub returns-clause-law : goal.returns-clause-law
 returns-clause-law g c = isolation
 
 pub returns-clause-runs : goal.returns-clause-runs
-returns-clause-runs g c = compared (c.go_through.ensures (search rules)) (c.go_through-2.ensures (search rules))
+returns-clause-runs g c = compared (c.go_through.ensures.gone (search rules)) (c.go_through-2.ensures.gone (search rules))

@@ -1,8 +1,9 @@
 use Rattle.std.proofs.Common.{◌≡◌, ◌≤◌, ◌+◌, ◌∙◌, length, ap, sym, arith, rules, vec_items, vec_len, vec_capacity}
+use Rattle.bus.proofs.Touches.{becomes_same, becomes_then}
 use Rattle.queue.proofs.Extensions.{extended_same, extended_twice}
 use Rattle.comparison.specs.declared.sides.Answered.{Answered}
-use Rattle.comparison.specs.Lists.{Noted, ends_interrupted}
-use Rattle.comparison.proofs.Chains.{followed_start, followed_more, noted_behind, noted_after, noted_none}
+use Rattle.comparison.specs.Lists.{ends_interrupted}
+use Rattle.comparison.proofs.Chains.{Noted, followed_start, followed_more, noted_behind, noted_after, noted_none}
 use Rattle.comparison.proofs.follow.follow.Goals as goal
 use Rattle.comparison.proofs.follow.follow.Goals.{in-None, in-Some, in-Some-2}
 
@@ -14,6 +15,7 @@ loop-asking-init g c =
       part = omega (arith, ap length none);
       within = omega arith;
       room = search rules;
+      touches = search (rules, becomes_same);
       same = search rules;
       extended = extended_same _;
     }
@@ -43,6 +45,7 @@ loop-asking-preserved g c =
       part = omega (arith, step.1);
       within = omega arith;
       room = omega (arith, step.2);
+      touches = search (rules, becomes_then);
       same = search rules;
       extended = extended_twice _ _ _ i.extended c.follow_one.ensures.extended;
     }

@@ -1,4 +1,5 @@
 use Rattle.std.proofs.Common.{◌≤◌, length, take, vec_items, vec_len, vec_capacity}
+use Rattle.bus.specs.Touches.{Becomes}
 use Rattle.queue.specs.Rows.{queued, capacity, SameSlots, Extended}
 use Rattle.console.specs.View.{desk_of}
 use Rattle.comparison.specs.Lists.{Followed}
@@ -12,6 +13,7 @@ invariant-loop-asking g l =
       part : vec_len l.answered.answers ≤ l.asking-index;
       within : l.asking-index ≤ length l.list;
       room : length l.list ≤ vec_capacity l.answered.answers;
+      touches : Becomes g.B.Bus.touched l.initial.machine.core.bus l.machine.core.bus;
       same : SameSlots l.initial.trace l.trace;
       extended : Extended l.initial.trace l.trace;
     }
