@@ -4,6 +4,7 @@
 ghost use Rattle.cases.specs.Alike.{AlikeMachines};
 ghost use Rattle.cases.specs.Cases.{WorkedCases};
 ghost use Rattle.cases.specs.Devices.{DeviceCases};
+ghost use Rattle.cases.specs.Example.{Example};
 ghost use Rattle.cases.specs.Further.{FurtherCases};
 
 /// The worked cases hold.
@@ -24,4 +25,9 @@ pub fn device_cases()
 /// There are two machines, reached by calls, that look alike to a protected program, and lists as the law of isolation asks for.
 pub fn two_alike_machines()
     ensures { AlikeMachines }
+{}
+
+/// There are such machines and lists with another meaning of halfwords too: 0 goes on to the next, any other calls the supervisor.
+pub fn there_are_such_machines()
+    ensures { Example }
 {}
