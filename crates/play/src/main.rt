@@ -2,11 +2,13 @@
 #![tactic(auto)]
 
 use session::session::{TAPE_BYTES, play_input};
-use std::io::{self, Read, Write};
+use std::io::{self, BufReader, Read, Write};
 
 fn main(rt: HostRuntime) -> io::Result<()> {
     let heap = rt.alloc();
     let mut input = Vec::new(heap);
-    rt.stdin().take(TAPE_BYTES as u64).read_to_end(&mut input)?;
+    // The whole limit is asked for at once, since a packet that is longer than a read is cut.
+    let stdin = rt.stdin().take(TAPE_BYTES as u64);
+    BufReader::with_capacity(heap, TAPE_BYTES, stdin)?.read_to_end(&mut input)?;
     rt.stdout().write_all(&play_input(heap, &input)?)
 }

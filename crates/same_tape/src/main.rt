@@ -54,8 +54,10 @@ fn print_played<S: Store + Drop>(
 
 fn main(rt: HostRuntime) -> io::Result<()> {
     let heap = rt.alloc();
-    let mut tape = Vec::new(heap);
-    rt.stdin().take(4_096).read_to_end(&mut tape)?;
+    // One read: what comes in a later piece is not played.
+    let mut tape = vec![in heap; 0u8; 4_096]?;
+    let length = rt.stdin().read(&mut tape)?;
+    tape.truncate(length);
     let mut words = vec![in heap; 0u16; 8_192]?;
     print_played(&rt, "core boards", CoreBoards::new(&mut words), &tape)?;
     let mut bytes = vec![in heap; 0u8; 16_385]?;
