@@ -145,7 +145,8 @@ impl<S: Store, B: Bus> Machine<S, B> {
         ensures extended { Extended trace.old trace.new }
     {
         self.key.unless_off()?;
-        run(&mut self.core, trace, count)
+        let answer = run(&mut self.core, trace, count)?;
+        Ok(answer)
     }
 
     /// Plays a tape with the key ON; answers the number of commands obeyed. The key is back where it was, however the tape ends, and what
