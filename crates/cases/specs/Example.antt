@@ -1,5 +1,5 @@
--- Two machines that look alike to a protected program and differ in all else, whatever halfwords mean: here a halfword goes on to the next or
--- calls the supervisor. The program goes on for one step and then calls it.
+-- Two machines that look alike to a protected program and differ in all else, with a meaning of halfwords made up for it; the program goes on for
+-- one step and then calls the supervisor.
 use Rattle.std.specs.Prelude.{◌≡◌, ℕ, ◌+◌, Bool, true, false, cond, List, [], ◌∷◌, ◌==◌, nat_lt, slice_index, slice_index_or}
 use Rattle.model.specs.declared.Kind.TheVariants.{Writable, Unfitted}
 use Rattle.model.specs.declared.Trap.TheVariants.{Supervisor}

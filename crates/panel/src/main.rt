@@ -8,8 +8,8 @@ use std::io::{self, BufReader, Read, Write};
 
 fn main(rt: HostRuntime) -> io::Result<()> {
     let heap = rt.alloc();
-    let mut input = Vec::new(heap);
-    // The whole limit is asked for at once, since a packet that is longer than a read is cut.
+    // Each read asks for all that is left of the limit, since a packet that is longer than a read is cut.
+    let mut input = Vec::with_capacity(heap, TAPE_BYTES + 1)?;
     let stdin = rt.stdin().take(TAPE_BYTES as u64);
     BufReader::with_capacity(heap, TAPE_BYTES, stdin)?.read_to_end(&mut input)?;
     rt.stdout().write_all(&page_of(heap, &input)?)
