@@ -7,7 +7,8 @@ use Rattle.model.specs.declared.Kind.TheVariants.{Writable}
 use Rattle.model.specs.declared.StepAnswer.TheVariants.{Waiting}
 use Rattle.model.specs.declared.Reason.TheVariants.{Waited}
 use Rattle.model.specs.declared.Item.TheVariants.{Segment, Status}
-use Rattle.model.specs.Stores.{shows, at}
+use Rattle.model.specs.Stores.{Store, shows, at}
+use Rattle.model.specs.Effects.{Prog}
 use Rattle.model.specs.Status.{waits, polls, slot, register_count}
 use Rattle.model.specs.Controller.{limit_of, relocation_of, present_of, chosen, block, within, present, real, place}
 use Rattle.model.specs.Answers.{done, ran as did_run, played}
@@ -27,7 +28,7 @@ abbrev segments : List ℕ
 segments = set (replicate 16 0) 0 0x210
 
 -- An element of zeros is zero.
-zeros : (n i : ℕ) → ◌≡◌ {A = ℕ} (get_or (replicate n 0) i 0) 0
+pub zeros : (n i : ℕ) → ◌≡◌ {A = ℕ} (get_or (replicate n 0) i 0) 0
 zeros n i = grind (arith, common_steps)
 
 first_present : (i : ℕ) → present_of (get_or segments i 0) ≡ true → i ≡ 0
@@ -79,17 +80,17 @@ alike = record {
 }
 
 -- ── Histories ──
--- A run of a new machine waits at once.
-after_run : Reached instruction (board 5) (devices false) (made (board 5) (devices false))
+-- A run of a new machine waits at once, whatever halfwords mean.
+pub after_run : (meaning : ℕ → Prog) (s : Store) → Reached meaning s (devices false) (made s (devices false))
 unfolding waits polls Steps
-after_run = ran 1 1 [] [] (did_run 1 Waited) new (record {
+after_run meaning s = ran 1 1 [] [] (did_run 1 Waited) new (record {
   steps = 1;
   why = Waited;
   answer = refl;
   key = refl;
   ran = record {
     before = 0;
-    state = (made (board 5) (devices false)).core;
+    state = (made s (devices false)).core;
     line = [];
     answer = Waiting;
     made = refl;
@@ -101,7 +102,7 @@ after_run = ran 1 1 [] [] (did_run 1 Waited) new (record {
 })
 
 one_reached : Reached instruction (board 5) (devices false) one
-one_reached = by_call (set_item Status program_status) (by_call (set_item (Segment 0) first_segment) after_run)
+one_reached = by_call (set_item Status program_status) (by_call (set_item (Segment 0) first_segment) (after_run instruction (board 5)))
 
 -- The three calls as a tape spells them.
 abbrev tape : List ℕ

@@ -1,31 +1,23 @@
 -- The two machines of the example are there, and meet every premise.
 use Rattle.std.proofs.Common.{◌≡◌, ℕ, zero, suc, ◌+◌, ◌*◌, ◌/◌, ◌%◌, ◌^◌, ◌<◌, Bool, true, false, T, eqb, leb, List, [], ◌∷◌, get_or, set, replicate, sym, refl, ap, ◌∙◌, subst, arith, eqb→eq, leb→le, get_or-set_other}
 use mathlib.Core.Bool.{false≢true}
-use Rattle.model.specs.declared.StepAnswer.TheVariants.{Waiting}
-use Rattle.model.specs.declared.Reason.TheVariants.{Waited}
 use Rattle.model.specs.declared.Item.TheVariants.{Segment, Status}
 use Rattle.model.specs.Stores.{at, full_at}
 use Rattle.model.specs.Status.{waits, polls, relocated, protected, selected, slot, register_count, no_set, file_of, counter, address}
 use Rattle.model.specs.Controller.{limit_of, relocation_of, no_execute_of, write_mode_of, present_of, used, chosen, block, within, present, no_execute, write_mode, real, place}
-use Rattle.model.specs.Answers.{done, ran as did_run, played}
-use Rattle.model.specs.Console.{strange, set_item, made}
+use Rattle.model.specs.Answers.{done, played}
+use Rattle.model.specs.Console.{strange, set_item}
 use Rattle.model.specs.Runs.{Steps}
 use Rattle.model.specs.Tapes.{command_of, spell_from, ends, goes_on}
 use Rattle.model.specs.Windows.{InWindow}
-use Rattle.model.specs.Calls.{Reached, new, called, ran, played as by_tape}
-use Rattle.cases.specs.Alike.{devices}
+use Rattle.model.specs.Calls.{new, called, played as by_tape}
 use Rattle.cases.specs.Example.{meaning, board, other, Example}
+use Rattle.cases.proofs.Alike.{zeros, after_run}
 
 -- ── The window ──
 -- The segmentation registers of both: the first has P set and a limit of one block.
 abbrev segments : List ℕ
 segments = set (replicate 16 0) 0 0x10
-
--- An element of zeros is zero.
-zeros : (n i : ℕ) → ◌≡◌ {A = ℕ} (get_or (replicate n 0) i 0) 0
-zeros zero i = refl
-zeros (suc n) zero = refl
-zeros (suc n) (suc i) = zeros n i
 
 first_present : (i : ℕ) → present_of (get_or segments i 0) ≡ true → i ≡ 0
 unfolding present_of
@@ -54,27 +46,6 @@ board_low x y p h = go (eqb p 200) refl
     go false e = rw e
 
 -- ── Histories ──
--- A run of a new machine waits at once.
-after_run : Reached meaning (board 5) (devices false) (made (board 5) (devices false))
-unfolding waits polls Steps
-after_run = ran 1 1 [] [] (did_run 1 Waited) new (record {
-  steps = 1;
-  why = Waited;
-  answer = refl;
-  key = refl;
-  ran = record {
-    before = 0;
-    state = (made (board 5) (devices false)).core;
-    line = [];
-    answer = Waiting;
-    made = refl;
-    within = omega arith;
-    goes = (refl, refl);
-    last = record { reply = devices false; does = refl };
-    stops = refl;
-  };
-})
-
 -- The three calls as a tape spells them.
 abbrev tape : List ℕ
 tape = 83 ∷ 0 ∷ 0 ∷ 0 ∷ 0 ∷ 0x10 ∷ 82 ∷ 3 ∷ 0 ∷ 0 ∷ 0 ∷ 7 ∷ 80 ∷ 0 ∷ 0 ∷ 5 ∷ 0x10 ∷ []
@@ -82,7 +53,7 @@ tape = 83 ∷ 0 ∷ 0 ∷ 0 ∷ 0 ∷ 0x10 ∷ 82 ∷ 3 ∷ 0 ∷ 0 ∷ 0 ∷ 7 
 pub example : Example
 unfolding full_at waits polls relocated protected selected slot no_set file_of counter address limit_of relocation_of no_execute_of write_mode_of present_of used chosen block within present no_execute write_mode real place strange Steps command_of spell_from
 example = record {
-  one_reached = called (set_item Status 0x510) (called (set_item (Segment 0) 0x10) after_run);
+  one_reached = called (set_item Status 0x510) (called (set_item (Segment 0) 0x10) (after_run meaning (board 5)));
   other_reached = by_tape 1 tape [] [] (played 3) new (record {
     final = other;
     plays = goes_on done (refl, refl) refl (goes_on done (refl, refl) refl (goes_on done (refl, refl) refl ends));

@@ -1,6 +1,6 @@
 -- Two machines that look alike to a protected program and differ in all else, with a meaning of halfwords made up for it; the program goes on for
 -- one step and then calls the supervisor.
-use Rattle.std.specs.Prelude.{◌≡◌, ℕ, ◌+◌, Bool, true, false, cond, List, [], ◌∷◌, ◌==◌, nat_lt, slice_index, slice_index_or}
+use Rattle.std.specs.Prelude.{◌≡◌, ℕ, ◌+◌, true, false, cond, List, [], ◌∷◌, ◌==◌, nat_lt, slice_index, slice_index_or}
 use Rattle.model.specs.declared.Kind.TheVariants.{Writable, Unfitted}
 use Rattle.model.specs.declared.Trap.TheVariants.{Supervisor}
 use Rattle.model.specs.declared.Cause.TheVariants.{SupervisorCall}
