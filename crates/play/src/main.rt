@@ -6,7 +6,8 @@ use std::io::{self, BufReader, Read, Write};
 
 fn main(rt: HostRuntime) -> io::Result<()> {
     let heap = rt.alloc();
-    // Each read asks for all that is left of the limit, since a packet that is longer than a read is cut.
+    // Each read asks for all that is left of the limit, since a packet that is longer than a read is cut. With a byte more of room the
+    // vector need not grow to see the end.
     let mut input = Vec::with_capacity(heap, TAPE_BYTES + 1)?;
     let stdin = rt.stdin().take(TAPE_BYTES as u64);
     BufReader::with_capacity(heap, TAPE_BYTES, stdin)?.read_to_end(&mut input)?;
